@@ -1,0 +1,10 @@
+pub mod Views
+pub mod Cells
+pub mod Owners
+pub mod Counting
+pub mod Tree
+pub mod Samples
+pub mod Small
+pub mod Bare
+pub mod Fresh
+pub mod Damaged

@@ -1,0 +1,5 @@
+pub mod Sizes
+pub mod Super
+pub mod Inode
+pub mod Slots
+pub mod Entry

@@ -1,0 +1,5 @@
+pub mod Numbers
+pub mod Lists
+pub mod Parts
+pub mod Runs
+pub mod Sums

@@ -1,0 +1,24 @@
+#!/usr/bin/env bash
+# The outside tests: what is compared with programs that Rattle does not prove. ALLOW_MISSING=yes goes on where their tools cannot be had.
+set -uo pipefail
+here=$(cd "$(dirname "${BASH_SOURCE[0]}")" && pwd)
+# shellcheck source=tools.sh
+. "$here/tools.sh"
+
+failed=0
+run() {
+    echo "outside: $*"
+    "$@" || { echo "outside: FAILED: $*"; failed=1; }
+}
+
+if need_outside_tools; then
+    run "$here/oracle/run.sh"
+else
+    echo "outside: left out: oracle (the unchanged Rust, for x86-64)"
+    [ "${ALLOW_MISSING:-no}" = yes ] || failed=1
+fi
+# The Rust's answers do not hang on the compiler: once more by the one of PATH, if it is another one.
+if [ "$(uname -m)" != x86_64 ] && command -v rustc >/dev/null; then
+    run "$here/oracle/run.sh" --host
+fi
+exit "$failed"
