@@ -3,3 +3,4 @@ pub mod Lists
 pub mod Parts
 pub mod Runs
 pub mod Sums
+pub mod Answers
