@@ -113,16 +113,16 @@ pub bytes-zeroed : (d : List ℕ) (at n : ℕ) → Bytes d → Bytes (zeroed d a
 unfolding zeroed
 bytes-zeroed d at n h = bytes-puts d _ _ n h (λ k l. omega arith)
 
--- ---- loops: the invariant of `for j in i..e` is `l ≡ turns f i (j - i) l₀`
+-- ---- loops: the invariant of `for j in i..e` is `a ≡ turns f i (j - i) a₀`
 
-module _ (f : ℕ → List ℕ → List ℕ) (i : ℕ) (l : List ℕ) where
+module _ {A : Type 0} (f : ℕ → A → A) (i : ℕ) (a : A) where
   -- where the loop begins
-  pub turns-none : l ≡ turns f i (i - i) l
+  pub turns-none : a ≡ turns f i (i - i) a
   unfolding turns
   turns-none = rw (sub-self i)
 
   -- a turn
-  pub turns-more : (j : ℕ) → i ≤ j → f j (turns f i (j - i) l) ≡ turns f i (j + 1 - i) l
+  pub turns-more : (j : ℕ) → i ≤ j → f j (turns f i (j - i) a) ≡ turns f i (j + 1 - i) a
   unfolding turns
   turns-more j h =
       let e : j + 1 - i ≡ suc (j - i) = omega arith in
@@ -130,10 +130,10 @@ module _ (f : ℕ → List ℕ → List ℕ) (i : ℕ) (l : List ℕ) where
       rw (e, e′)
 
   -- what every turn keeps holds at the end
-  pub turns-keep : (P : ℕ → List ℕ → Type 0) → P 0 l → (k : ℕ) → ((j : ℕ) (x : List ℕ) → j < k → P j x → P (suc j) (f (i + j) x)) → P k (turns f i k l)
+  pub turns-keep : (P : ℕ → A → Type 0) → P 0 a → (k : ℕ) → ((j : ℕ) (x : A) → j < k → P j x → P (suc j) (f (i + j) x)) → P k (turns f i k a)
   unfolding turns
   turns-keep P p zero h = p
-  turns-keep P p (suc k) h = h k (turns f i k l) (omega arith) (turns-keep P p k (λ j x lt q. h j x (omega arith) q))
+  turns-keep P p (suc k) h = h k (turns f i k a) (omega arith) (turns-keep P p k (λ j x lt q. h j x (omega arith) q))
 
 -- ---- for computing: a run of stores takes as many steps as its places' sum, and this form as many as the list is long
 

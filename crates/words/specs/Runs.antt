@@ -17,7 +17,7 @@ copied d at s from n = puts d (λ k. at + k) (λ k. byte s (from + k)) n
 unfoldable pub zeroed : List ℕ → ℕ → ℕ → List ℕ
 zeroed d at n = puts d (λ k. at + k) (λ k. 0) n
 
--- what a loop `for j in i..i + k` leaves of l, whose turn j takes a list x to f j x
-unfoldable pub turns : (ℕ → List ℕ → List ℕ) → ℕ → ℕ → List ℕ → List ℕ
-turns f i zero l = l
-turns f i (suc k) l = f (i + k) (turns f i k l)
+-- what a loop `for j in i..i + k` leaves of a, whose turn j takes x to f j x
+unfoldable pub turns : {A : Type 0} → (ℕ → A → A) → ℕ → ℕ → A → A
+turns f i zero a = a
+turns f i (suc k) a = f (i + k) (turns f i k a)

@@ -1,0 +1,4 @@
+pub mod Marking
+pub mod Uses
+pub mod Readable
+pub mod Heads
