@@ -53,6 +53,22 @@ num-frame zero xs ys at h = refl
 num-frame (suc n) xs ys at h =
     rw (h at (omega arith) (omega arith), num-frame n xs ys (at + 1) (λ k p q. h k (omega arith) (omega arith)))
 
+-- a number goes by its bytes, wherever they stand
+pub num-moved : (m : ℕ) (xs ys : List ℕ) (a b : ℕ) → ((i : ℕ) → i < m → byte xs (a + i) ≡ byte ys (b + i)) → num m xs a ≡ num m ys b
+unfolding num
+num-moved zero xs ys a b h = refl
+num-moved (suc m) xs ys a b h =
+    let a₀ : a + 0 ≡ a = omega arith in
+    let b₀ : b + 0 ≡ b = omega arith in
+    let first : byte xs a ≡ byte ys b = rw (a₀, b₀) at (h 0 (omega arith)) in
+    let rest : num m xs (a + 1) ≡ num m ys (b + 1) =
+    num-moved m xs ys (a + 1) (b + 1)
+    (λ i l.
+    let a₁ : a + suc i ≡ a + 1 + i = omega arith in
+    let b₁ : b + suc i ≡ b + 1 + i = omega arith in
+    rw (a₁, b₁) at (h (suc i) (omega arith))) in
+    omega arith
+
 pub num-lt : (n : ℕ) (xs : List ℕ) (at : ℕ) → Bytes xs → num n xs at < 256 ^ n
 unfolding num
 num-lt zero xs at h = omega arith
