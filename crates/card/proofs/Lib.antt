@@ -3,6 +3,9 @@ pub mod Cells
 pub mod Owners
 pub mod Counting
 pub mod Tree
+pub mod Frames
+pub mod Kept
+pub mod Isolation
 pub mod Samples
 pub mod Small
 pub mod Bare

@@ -1,0 +1,116 @@
+-- `walk::queue::scan` meets its contract. The loop's invariant: the first j children are noted (`Noting`). The measure is what is left of them. Assumes nothing.
+use borrow.Author.Needs.{needs}
+use native.Mathlib.Omega.{arith}
+use mathlib.Core.Path.{refl}
+use Prim.Native.Nat.{_-_, _≤_, _<_}
+use denote.Ref.{now}
+use Rattle.card.specs.View.{kids}
+use Rattle.walk.specs.Steps.{past}
+use Rattle.walk.proofs.Queueing.{room, Noting, noting-none, noting-more, noting-many, noting-all}
+use Rattle.walk.proofs.queue.scan.Statement.{statement}
+use Rattle.walk.proofs.queue.scan.Tie as tie
+
+abbrev Inv-loop : tie.InvT-loop
+Inv-loop image s₀ nb n e t end₀ j₀ s end j = (j ≤ e) × Noting image s₀ s nb (n .0) t end j
+
+abbrev μ-loop : tie.MeasureT-loop
+μ-loop image s₀ nb n e t end₀ j₀ s end j = e - j
+
+loop-holds : tie.Need-loop-holds Inv-loop μ-loop
+loop-holds c = (omega arith, noting-none _ _ _ _ _ (c .before .before .pre .6))
+
+add-entry-number : tie.Need-add-entry-number Inv-loop μ-loop
+add-entry-number c = search needs
+
+entry-number-requires : tie.Need-entry-number-requires Inv-loop μ-loop
+entry-number-requires c κs = (c .before .before .before .before .pre .4, omega (arith, c .before .before .before .before .pre .3 (omega arith)))
+
+cast-at : tie.Need-cast-at Inv-loop μ-loop
+cast-at c = search needs
+
+same-length : tie.Need-same-length Inv-loop μ-loop
+same-length c = search needs
+
+returns : tie.Need-returns Inv-loop μ-loop
+returns c =
+    past (c .before .before .before .before .loop .j) (omega (arith, c .before .before .before .before .before .before .before .pre .1)) (omega (arith, c .before .before .entry-number .ensures))
+
+mul-v : tie.Need-mul-v Inv-loop μ-loop
+mul-v c = search needs
+
+add-v : tie.Need-add-v Inv-loop μ-loop
+add-v c = search needs
+
+mul-v-2 : tie.Need-mul-v-2 Inv-loop μ-loop
+mul-v-2 c = search needs
+
+slice-read-v : tie.Need-slice-read-v Inv-loop μ-loop
+slice-read-v c = omega (arith, c .before .before .before .before .before .loop .inv .1 .grown .long)
+
+same-length-2 : tie.Need-same-length-2 Inv-loop μ-loop
+same-length-2 c = search needs
+
+returns-2 : tie.Need-returns-2 Inv-loop μ-loop
+returns-2 c =
+    let s = c .before .before .before .before .before .before .before .before .before in
+    let o = c .before .before .before .before .before .before .loop in
+    let r = c .before .before .before .before .entry-number in
+    let l : o .j < kids (now (s .args .image)) (s .args .n .0) = omega (arith, s .pre .1) in
+    noting-many _ _ _ _ _ _ _ _ _ (o .inv .1) l (r .ensures) (omega arith) (omega arith)
+
+note-requires : tie.Need-note-requires Inv-loop μ-loop
+note-requires c κs = (
+  search needs,
+  omega (arith, c .before .before .before .before .before .before .before .loop .inv .1 .grown .long),
+  omega arith,
+  refl,
+  omega arith,
+  λ z. room _ _ _ _ (c .before .before .before .before .before .before .before .loop .inv .1 .grown .queue) (c .before .before .before .before .before .entry-number .result .0) (omega arith) z,
+)
+
+add-j : tie.Need-add-j Inv-loop μ-loop
+add-j c = search needs
+
+loop-less : tie.Need-loop-less Inv-loop μ-loop
+loop-less c = search needs
+
+loop-again : tie.Need-loop-again Inv-loop μ-loop
+loop-again c =
+    let s = c .before .before .before .before .before .before .before .before .before .before .before .before .before in
+    let o = c .before .before .before .before .before .before .before .before .before .before .loop in
+    let r = c .before .before .before .before .before .before .before .before .entry-number in
+    let l : o .j < kids (now (s .args .image)) (s .args .n .0) = omega (arith, s .pre .1) in (
+      omega arith,
+      noting-more _ _ _ _ _ _ _ _ _ (o .inv .1) l (r .ensures) (omega arith) _ _ (omega arith) (s .pre .5) (c .before .before .note .ensures),
+    )
+
+same-length-3 : tie.Need-same-length-3 Inv-loop μ-loop
+same-length-3 c = search needs
+
+returns-3 : tie.Need-returns-3 Inv-loop μ-loop
+returns-3 c = noting-all _ _ _ _ _ _ _ _ (c .before .loop .inv .1) (omega (arith, c .before .before .before .before .pre .1))
+
+pub scan-spec : {M : Type 1} → statement M
+scan-spec =
+    tie.close
+    (tie.spec
+    Inv-loop
+    μ-loop
+    loop-holds
+    add-entry-number
+    entry-number-requires
+    cast-at
+    same-length
+    returns
+    mul-v
+    add-v
+    mul-v-2
+    slice-read-v
+    same-length-2
+    returns-2
+    note-requires
+    add-j
+    loop-less
+    loop-again
+    same-length-3
+    returns-3)
