@@ -62,14 +62,6 @@ module _ (e : List ℕ) (i : ℕ) (l : i < length e) where
   pub to-cons : (y : ℕ) (ys : List ℕ) → (y ≡ 0 → ⊥) → getD e i 0 ≡ y → left e (i + 1) ≡ ys → left e i ≡ y ∷ ys
   to-cons y ys d a b = nul-next e i l (λ z. d (sym a ∙ z)) ∙ ap (λ (x : ℕ). x ∷ left e (i + 1)) a ∙ ap (λ (t : List ℕ). y ∷ t) b
 
--- a last test of two numbers
-pub when-eqb : (x y : ℕ) (A B : Type 0) → (x ≡ y → A) → ((x ≡ y → ⊥) → B) → When (eqb x y) A B
-when-eqb x y A B f g = go (ℕ-discrete x y)
-  where
-    go : Dec (x ≡ y) → When (eqb x y) A B
-    go (yes e) = rw (eq-eqb x y e) (f e)
-    go (no d) = rw (ne-eqb x y d) (g d)
-
 -- ---- two names side by side: they are the same where what is left of them from place i on is
 
 pub record Alike (a b : List ℕ) (i : ℕ) : Type 0 where

@@ -20,24 +20,8 @@ use Rattle.card.specs.View.{entry, kids, kid, subs}
 use Rattle.card.specs.Whole.{Inode}
 use Rattle.card.proofs.Views.{kids-of-dir, kids-of-other, kids-dir}
 use Rattle.marks.proofs.Heads.{head-kind, head-size}
-use Rattle.walk.specs.Steps.{kidsBy, headKids, Kept, Tally}
-
--- an answer that is a test of two numbers
-pub when-eqb : (a b : ℕ) (A B : Type 0) → (a ≡ b → A) → ((a ≡ b → ⊥) → B) → When (eqb a b) A B
-when-eqb a b A B f g = go (ℕ-discrete a b)
-  where
-    go : Dec (a ≡ b) → When (eqb a b) A B
-    go (yes e) = rw (eq-eqb a b e) (f e)
-    go (no d) = rw (ne-eqb a b d) (g d)
-
-kids-by : (img : List ℕ) (n : ℕ) (t : FileType) (z : ℕ) → kind img n ≡ kindNo t → z ≡ size img n → kidsBy t z ≡ kids img n
-kids-by img n File z k e = sym (kids-of-other img n (λ q. omega arith))
-kids-by img n Dir z k e = omega (arith, kids-of-dir img n k)
-kids-by img n SymLink z k e = sym (kids-of-other img n (λ q. omega arith))
-
--- the children that a decoded head says are the inode's
-pub head-kids : (img : List ℕ) (n : ℕ) (h : Head) → decoded img n ≡ Good h → headKids h ≡ kids img n
-head-kids img n h g = kids-by img n (h .«type_») (h .size) (head-kind img n h g) (head-size img n h g)
+use Rattle.words.proofs.Answers.{when-eqb}
+use Rattle.walk.specs.Steps.{Kept, Tally}
 
 -- a child's entry lies within the directory's blocks
 pub kid-inside : (img : List ℕ) (n j : ℕ) → Inode img n → j < kids img n → 260 * (2 + j) + 260 ≤ 4096 * count img n

@@ -15,25 +15,15 @@ use Rattle.freemap.specs.Bits.{mapBit}
 use Rattle.card.specs.View.{kids, kid, names, naming, owns, entry}
 use Rattle.card.specs.Whole.{Sized, Reached, root, down, Whole}
 use Rattle.card.proofs.Views.{uses-parts, kids-dir}
+use Rattle.walk.proofs.Queueing.{pos-suc, queue-le}
+use Rattle.walk.proofs.Visiting.{cnt-at}
 use Rattle.walk.specs.Steps.{pos, seenAt, Space, Good, Queue, Progress, Family, Tally, Tallies, Bits, Past, Seen}
 
 -- ---- the queue
 
-pos-le : (v : ℕ) → pos v ≤ 1
-pos-le zero = omega arith
-pos-le (suc v) = omega arith
-
-pos-suc : (v : ℕ) → 0 < v → pos v ≡ 1
-pos-suc zero h = absurd (omega arith)
-pos-suc (suc v) h = refl
-
 pos-pos : (v : ℕ) → 0 < pos v → 0 < v
 pos-pos zero h = h
 pos-pos (suc v) h = omega arith
-
--- the queue is no longer than the card
-pub queue-short : (img s : List ℕ) (nb t : ℕ) → Queue img s nb t → t ≤ nb
-queue-short img s nb t q = omega (arith, q .filled, sumTo-ones (λ x. pos (seenAt s nb x)) nb (λ x. pos-le (seenAt s nb x)))
 
 -- what holds of each of the first k words holds of each number among them
 each : (P : ℕ → Type 0) (s : List ℕ) (n k : ℕ) → k ≤ length s → ((i : ℕ) → i < k → P (getD s i 0)) → 0 < cnt n (take k s) → P n
@@ -45,26 +35,12 @@ each P s n (suc k) b h c =
     (λ w. r (omega (arith, ap (cnt n) (take-suc s k 0 (omega arith)), sumOn-snoc (δ n) (take k s) (getD s k 0), w .1)))
     (δ-cases n (getD s k 0))
 
--- and each of the first k words is among them
-among : (s : List ℕ) (i k : ℕ) → i < k → k ≤ length s → 0 < cnt (getD s i 0) (take k s)
-among s i zero l b = absurd (omega arith)
-among s i (suc k) l b = go (among s i k) (decLt i k)
-  where
-    more : cnt (getD s i 0) (take (suc k) s) ≡ cnt (getD s i 0) (take k s) + δ (getD s i 0) (getD s k 0)
-    more = ap (cnt (getD s i 0)) (take-suc s k 0 (omega arith)) ∙ sumOn-snoc (δ (getD s i 0)) (take k s) (getD s k 0)
-
-    go : (i < k → k ≤ length s → 0 < cnt (getD s i 0) (take k s)) → Dec (i < k) → 0 < cnt (getD s i 0) (take (suc k) s)
-    go r (yes p) = omega (arith, more, r p (omega arith))
-    go r (no p) =
-        let e : i ≡ k = omega arith in
-        omega (arith, more, δ-same (getD s i 0) (getD s k 0) (ap (λ (x : ℕ). getD s x 0) e))
-
 module _ (img s : List ℕ) (nb t : ℕ) (space : Space img s nb) (p : Progress img s nb t t) where
   abbrev q : List ℕ
   q = take t s
 
   fits : t ≤ length s
-  fits = omega (arith, queue-short img s nb t (p .queue), space .words)
+  fits = omega (arith, queue-le img s nb t (p .queue), space .words)
 
   cnt-seen : (m : ℕ) → m < nb → 0 < seenAt s nb m → cnt m q ≡ 1
   cnt-seen m l h = p .queue .listed m l ∙ pos-suc (seenAt s nb m) h
@@ -90,7 +66,7 @@ module _ (img s : List ℕ) (nb t : ℕ) (space : Space img s nb) (p : Progress 
 
   pub family-in : (i : ℕ) → i < t → (getD s i 0 < nb) × Family img (getD s i 0)
   family-in i l =
-      let h = among s i t l fits in (
+      let h = cnt-at s i t l (omega (arith, fits)) in (
         p .queue .inside (getD s i 0) h,
         record {
           self = p .good (getD s i 0) h;
@@ -200,4 +176,4 @@ module _ (img s : List ℕ) (nb t : ℕ) (space : Space img s nb) (p : Progress 
         }
 
     pub tallies-hold : Tallies img s nb t
-    tallies-hold = record { each = λ i l. tally-holds (getD s i 0) (among s i t l fits) }
+    tallies-hold = record { each = λ i l. tally-holds (getD s i 0) (cnt-at s i t l (omega (arith, fits))) }

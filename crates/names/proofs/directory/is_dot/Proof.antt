@@ -2,7 +2,8 @@
 use native.Mathlib.Omega.{arith}
 use mathlib.Core.List.{[]}
 use Rattle.layout.proofs.Names.{nul-here}
-use Rattle.names.proofs.Scanning.{left-nil, left-cons, to-cons, when-eqb}
+use Rattle.words.proofs.Answers.{when-eqb}
+use Rattle.names.proofs.Scanning.{left-nil, left-cons, to-cons}
 use borrow.Author.Needs.{needs}
 use Rattle.names.proofs.directory.is_dot.Statement.{statement}
 use Rattle.names.proofs.directory.is_dot.Tie as tie

@@ -5,7 +5,8 @@ use borrow.Author.Needs.{needs}
 use denote.Ref.{now}
 use Rattle.marks.proofs.Heads.{head-links}
 use Rattle.walk.specs.Steps.{Kept}
-use Rattle.walk.proofs.Families.{head-kids, dir-tally, kept-few}
+use Rattle.walk.proofs.Visiting.{head-kids}
+use Rattle.walk.proofs.Families.{dir-tally, kept-few}
 use Rattle.walk.proofs.judge.dir_links.Statement.{statement}
 use Rattle.walk.proofs.judge.dir_links.Tie as tie
 

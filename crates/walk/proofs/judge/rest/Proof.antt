@@ -4,7 +4,8 @@ use native.Mathlib.Omega.{arith}
 use borrow.Author.Needs.{needs}
 use Rattle.words.proofs.Answers.{when-not-true, when-not-false}
 use Rattle.layout.specs.Sizes.{mapsFor}
-use Rattle.walk.proofs.Judging.{queue-short, family-in, root-good, told, judged-whole, bits-hold, past-holds, tallies-hold}
+use Rattle.walk.proofs.Queueing.{queue-le}
+use Rattle.walk.proofs.Judging.{family-in, root-good, told, judged-whole, bits-hold, past-holds, tallies-hold}
 use Rattle.walk.proofs.judge.rest.Statement.{statement}
 use Rattle.walk.proofs.judge.rest.Tie as tie
 
@@ -41,7 +42,7 @@ returns-3 c =
 tally-requires : tie.Need-tally-requires
 tally-requires c κs =
     let c9 = c .before .before .before .before .before .before .before .before .before in
-    let p = c9 .pre in (p .0, queue-short _ _ _ _ (p .5 .queue), family-in _ _ _ _ (p .0) (p .5))
+    let p = c9 .pre in (p .0, queue-le _ _ _ _ (p .5 .queue), family-in _ _ _ _ (p .0) (p .5))
 
 returns-4 : tie.Need-returns-4
 returns-4 c =
