@@ -1,0 +1,94 @@
+#!/usr/bin/env bash
+# Do these tests notice a fault? Each line below is one in the stand-in (bench/check/plain.rs): the text on the left
+# of ==> for the one on the right, ";;" between several. check_fuzz must find every one; where it does not, that is printed.
+# By the rustc of PATH, for this machine; some three minutes. CHECK_SECONDS: time for one fault. An argument: only
+# the faults that hold this text.
+set -euo pipefail
+here=$(cd "$(dirname "${BASH_SOURCE[0]}")" && pwd)
+root=$(cd "$here/../.." && pwd)
+out=$root/target/check/faults
+rm -rf "$out"
+mkdir -p "$out/tests/check" "$out/bench/check" "$out/lib"
+cp "$here"/*.rs "$out/tests/check/"
+read -r -a rustc <<<"${RUSTC:-rustc}"
+flags=(--edition 2021 -C opt-level=2 -L "$out/lib")
+plain=$(cat "$root/bench/check/plain.rs")
+
+"${rustc[@]}" "${flags[@]}" --crate-name kit --crate-type rlib --out-dir "$out/lib" "$here/kit.rs"
+found=0
+missed=0
+while IFS= read -r line; do
+    case $line in *"${1:-}"*) ;; *) continue ;; esac
+    wrong=$plain
+    rest="${line//\\n/$'\n'} ;; "
+    while [ -n "$rest" ]; do
+        edit=${rest%% ;; *}
+        rest=${rest#* ;; }
+        old=${edit%% ==> *}
+        before=$wrong
+        wrong=${wrong/"$old"/"${edit##* ==> }"}
+        if [ "$wrong" = "$before" ]; then
+            echo "faults: not in plain.rs: $old"
+            exit 1
+        fi
+    done
+    printf '%s\n' "$wrong" >"$out/bench/check/plain.rs"
+    # A fault leaves some things unused.
+    "${rustc[@]}" "${flags[@]}" --cap-lints allow --crate-name standin --crate-type lib --emit obj \
+        -o "$out/lib/standin.o" "$out/tests/check/standin.rs"
+    rm -f "$out/lib/libsfs.a"
+    ar rcs "$out/lib/libsfs.a" "$out/lib/standin.o"
+    "${rustc[@]}" "${flags[@]}" --crate-name check_fuzz --extern kit -o "$out/check_fuzz" "$out/tests/check/main.rs"
+    if bash -c '"$@"; exit $?' - "$out/check_fuzz" --seconds "${CHECK_SECONDS:-20}" --cases 60000 --save "$out" >"$out/log" 2>&1; then
+        echo "faults: MISSED: $line"
+        missed=$((missed + 1))
+    else
+        found=$((found + 1))
+        at=$(grep -o 'case [0-9]*' "$out/log" | head -n 1) || true
+        echo "faults: found (${at:-it ended the process}): $line"
+    fi
+done <<'END'
+if image.len() < BLOCK { ==> if image.len() < 48 {
+word(image, 0) != MAGIC ==> word(image, 0) | 1 != MAGIC
+!(16..=32_768).contains(&blocks) ==> !(15..=32_768).contains(&blocks)
+|| word(image, 44) != 1 ==> || word(image, 44) & 255 != 1
+|| image.len() < blocks as usize * BLOCK ==> || image.len() + 1 < blocks as usize * BLOCK
+if scratch.len() < words { ==> if scratch.len() <= words {
+scratch[..words].fill(0); ==> scratch.fill(0);
+scratch[..words].fill(0); ==> scratch[..words - 1].fill(0);
+u32::from(head.links) { ==> u32::from(head.links | 2) {
+_ if i == whole => last, ==> _ if i == whole => last | free,
+_ => 0,\n ==> _ => free,
+if unused == word(self.image, 8) { ==> if unused <= word(self.image, 8) {
+if *byte & bit != 0 { ==> if *byte & bit != 0 && block != 3 {
+(1..=3).contains(&head.kind) ==> (1..=4).contains(&head.kind)
+&& head.count == (head.size + BLOCK - 1) / BLOCK ==> && head.count >= (head.size + BLOCK - 1) / BLOCK
+(head.indirect != 0) == (head.count >= 12) ==> (head.indirect != 0) == (head.count >= 13)
+(head.indirect != 0) == (head.count >= 12) ==> (head.indirect != 0 || head.count < 12)
+(head.double != 0) == (head.count >= 1036) ==> (head.double != 0 || head.count < 1036)
+(head.double != 0) == (head.count >= 1036) ==> (head.double != 0) == (head.count > 1036)
+|| (number == ROOT && head.kind != DIR) ==> || (number == ROOT && head.kind == 3)
+0..=(count - 1036) / 1024 ==> 0..(count - 1036 + 1023) / 1024
+self.slots(self.block(second), count - 1036 - 1024 * j)?; ==> self.slots(self.block(second), (count - 1036 - 1024 * j).min(1023))?;
+if head.size % ENTRY != 0 || entries < 2 { ==> if entries < 2 {
+if head.size % ENTRY != 0 || entries < 2 { ==> if head.size % ENTRY != 0 {
+0 => name == b"." && named == number, ==> 0 => name == b".",
+0 => name == b"." && named == number, ==> 0 => name[0] == b'.' && named == number,
+1 => name == b".." && named == self.parent[number as usize], ==> 1 => name == b"..",
+1 => name == b".." && named == self.parent[number as usize], ==> 1 => name == b".." && (number == ROOT || named == self.parent[number as usize]),
+1 => name == b".." && named == self.parent[number as usize], ==> 1 => named == self.parent[number as usize],
+if !expected || known { ==> if !expected {
+if !expected || known { ==> if !expected || (known && k > 200) {
+usize::from(head.links) == 2 + subdirectories ==> usize::from(head.links) >= 2 + subdirectories
+} else if directory { ==> } else if directory && false {
+return if len == 0 { Err(Damaged) } ==> return if len == 300 { Err(Damaged) }
+    }\n    Err(Damaged)\n}\n\nfn step ==> }\n    Ok((bytes, hash))\n}\n\nfn step
+let mark = (hash ^ hash >> 32) as u32; ==> let mark = 0; ;; & self.mask;\n        loop ==> & 3;\n        loop ;; && entry[4 + name.len()] == 0 ==> && entry[4] != 0
+let mark = (hash ^ hash >> 32) as u32; ==> let mark = 0; ;; & self.mask;\n        loop ==> & 3;\n        loop ;; entry[4..].starts_with(name) ==> entry[4..].starts_with(&name[..name.len() - 1])
+let mark = (hash ^ hash >> 32) as u32; ==> let mark = 0; ;; & self.mask;\n        loop ==> & 3;\n        loop ;; entry[4..].starts_with(name) ==> entry[5..].starts_with(&name[1..])
+self.take(head.indirect)?; ==> if self.take(head.indirect).is_err() && head.indirect as usize >= self.blocks { return Err(Damaged); }
+self.take(second)?; ==> if self.take(second).is_err() && second as usize >= self.blocks { return Err(Damaged); }
+self.take(head.double)?; ==> if self.take(head.double).is_err() && head.double as usize >= self.blocks { return Err(Damaged); }
+END
+echo "faults: $found found, $missed missed"
+[ $missed -eq 0 ]
