@@ -11,10 +11,14 @@ run() {
     "$@" || { echo "outside: FAILED: $*"; failed=1; }
 }
 
+# The archive that the tests link, from what was just proved.
+(cd "$here/.." && rt staticlib sfs >/dev/null) || { echo "outside: FAILED: rt staticlib sfs"; failed=1; }
+
 if need_outside_tools; then
     run "$here/oracle/run.sh"
+    SFS_CHECK="$here/program.sh sfs_check" run "$here/check/run.sh"
 else
-    echo "outside: left out: oracle (the unchanged Rust, for x86-64)"
+    echo "outside: left out: oracle (the unchanged Rust, for x86-64), check (libsfs.a beside 01's rules)"
     [ "${ALLOW_MISSING:-no}" = yes ] || failed=1
 fi
 # The Rust's answers do not hang on the compiler: once more by the one of PATH, if it is another one.
