@@ -6,6 +6,7 @@ pub mod Tree
 pub mod Frames
 pub mod Kept
 pub mod Isolation
+pub mod Tail
 pub mod Samples
 pub mod Small
 pub mod Bare
