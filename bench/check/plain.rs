@@ -172,10 +172,10 @@ impl<'a> Walk<'a> {
     fn blocks_of(&mut self, number: u32, head: &Head) -> Result<(), Damaged> {
         self.data.clear();
         let count = head.count;
-        self.slots(&self.block(number)[12..60], count)?;
+        self.slots(&self.block(number)[12..60], count, head.kind)?;
         if count >= 12 {
             self.take(head.indirect)?;
-            self.slots(self.block(head.indirect), count - 12)?;
+            self.slots(self.block(head.indirect), count - 12, head.kind)?;
         }
         if count >= 1036 {
             self.take(head.double)?;
@@ -183,18 +183,20 @@ impl<'a> Walk<'a> {
             for j in 0..=(count - 1036) / 1024 {
                 let second = word(seconds, 4 * j);
                 self.take(second)?;
-                self.slots(self.block(second), count - 1036 - 1024 * j)?;
+                self.slots(self.block(second), count - 1036 - 1024 * j, head.kind)?;
             }
         }
         Ok(())
     }
 
-    /// Takes the blocks in the first `wanted` slots, or in all there are.
-    fn slots(&mut self, slots: &[u8], wanted: usize) -> Result<(), Damaged> {
-        for slot in slots.chunks_exact(4).take(wanted) {
-            let block = word(slot, 0);
+    /// Takes the blocks in the first `wanted` slots, or in all there are. Those of a directory will be read.
+    fn slots(&mut self, slots: &[u8], wanted: usize, kind: u16) -> Result<(), Damaged> {
+        let slots = slots.chunks_exact(4).take(wanted).map(|slot| word(slot, 0));
+        if kind == DIR {
+            self.data.extend(slots.clone());
+        }
+        for block in slots {
             self.take(block)?;
-            self.data.push(block);
         }
         Ok(())
     }
@@ -272,7 +274,7 @@ impl<'a> Walk<'a> {
 fn name_in(entry: &[u8]) -> Result<(&[u8], u64), Damaged> {
     const ONES: u64 = 0x0101_0101_0101_0101;
     let bytes = &entry[4..ENTRY];
-    let mut hash = 0u64;
+    let mut hash = 0x2d35_8dcc_aa6c_78a5;
     for (i, chunk) in bytes.chunks_exact(8).enumerate() {
         let word = u64::from(word(chunk, 0)) | u64::from(word(chunk, 4)) << 32;
         let zero = word.wrapping_sub(ONES) & !word & (ONES << 7);
@@ -289,8 +291,10 @@ fn name_in(entry: &[u8]) -> Result<(&[u8], u64), Damaged> {
     Err(Damaged)
 }
 
+/// The two halves of a product, folded: names that differ in a few digits are far apart.
 fn step(hash: u64, word: u64) -> u64 {
-    (hash.rotate_left(5) ^ word).wrapping_mul(0x9e37_79b9_7f4a_7c15)
+    let product = u128::from(hash ^ word) * 0x9e37_79b9_7f4a_7c15_u128;
+    product as u64 ^ (product >> 64) as u64
 }
 
 fn is_named(entry: &[u8], name: &[u8]) -> bool {
@@ -314,9 +318,8 @@ impl Names {
 
     /// Answers whether the name was there. `same` tells whether an earlier entry has it.
     fn insert(&mut self, hash: u64, k: usize, mut same: impl FnMut(usize) -> bool) -> bool {
-        // The upper bits of a product are the mixed ones: 24 of them are enough places for any directory.
-        let mark = (hash ^ hash >> 32) as u32;
-        let mut at = (hash >> 40) as usize & self.mask;
+        let mark = (hash >> 32) as u32;
+        let mut at = hash as usize & self.mask;
         loop {
             match self.table[at] {
                 (_, 0) => {

@@ -69,7 +69,7 @@ if *byte & bit != 0 { ==> if *byte & bit != 0 && block != 3 {
 (head.double != 0) == (head.count >= 1036) ==> (head.double != 0) == (head.count > 1036)
 || (number == ROOT && head.kind != DIR) ==> || (number == ROOT && head.kind == 3)
 0..=(count - 1036) / 1024 ==> 0..(count - 1036 + 1023) / 1024
-self.slots(self.block(second), count - 1036 - 1024 * j)?; ==> self.slots(self.block(second), (count - 1036 - 1024 * j).min(1023))?;
+self.slots(self.block(second), count - 1036 - 1024 * j, ==> self.slots(self.block(second), (count - 1036 - 1024 * j).min(1023),
 if head.size % ENTRY != 0 || entries < 2 { ==> if entries < 2 {
 if head.size % ENTRY != 0 || entries < 2 { ==> if head.size % ENTRY != 0 {
 0 => name == b"." && named == number, ==> 0 => name == b".",
@@ -82,10 +82,10 @@ if !expected || known { ==> if !expected || (known && k > 200) {
 usize::from(head.links) == 2 + subdirectories ==> usize::from(head.links) >= 2 + subdirectories
 } else if directory { ==> } else if directory && false {
 return if len == 0 { Err(Damaged) } ==> return if len == 300 { Err(Damaged) }
-    }\n    Err(Damaged)\n}\n\nfn step ==> }\n    Ok((bytes, hash))\n}\n\nfn step
-let mark = (hash ^ hash >> 32) as u32; ==> let mark = 0; ;; & self.mask;\n        loop ==> & 3;\n        loop ;; && entry[4 + name.len()] == 0 ==> && entry[4] != 0
-let mark = (hash ^ hash >> 32) as u32; ==> let mark = 0; ;; & self.mask;\n        loop ==> & 3;\n        loop ;; entry[4..].starts_with(name) ==> entry[4..].starts_with(&name[..name.len() - 1])
-let mark = (hash ^ hash >> 32) as u32; ==> let mark = 0; ;; & self.mask;\n        loop ==> & 3;\n        loop ;; entry[4..].starts_with(name) ==> entry[5..].starts_with(&name[1..])
+    }\n    Err(Damaged)\n}\n\n/// The two ==> }\n    Ok((bytes, hash))\n}\n\n/// The two
+let mark = (hash >> 32) as u32; ==> let mark = 0; ;; & self.mask;\n        loop ==> & 3;\n        loop ;; && entry[4 + name.len()] == 0 ==> && entry[4] != 0
+let mark = (hash >> 32) as u32; ==> let mark = 0; ;; & self.mask;\n        loop ==> & 3;\n        loop ;; entry[4..].starts_with(name) ==> entry[4..].starts_with(&name[..name.len() - 1])
+let mark = (hash >> 32) as u32; ==> let mark = 0; ;; & self.mask;\n        loop ==> & 3;\n        loop ;; entry[4..].starts_with(name) ==> entry[5..].starts_with(&name[1..])
 self.take(head.indirect)?; ==> if self.take(head.indirect).is_err() && head.indirect as usize >= self.blocks { return Err(Damaged); }
 self.take(second)?; ==> if self.take(second).is_err() && second as usize >= self.blocks { return Err(Damaged); }
 self.take(head.double)?; ==> if self.take(head.double).is_err() && head.double as usize >= self.blocks { return Err(Damaged); }

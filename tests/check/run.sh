@@ -86,8 +86,8 @@ step() {
 }
 
 step oracle "${run[@]}" "$out/check_oracle" 60
-step fuzz "${run[@]}" "$out/check_fuzz" --seed "${CHECK_SEED:-1}" --cases "${CHECK_CASES:-50000}" \
-    --seconds "${CHECK_SECONDS:-90}" --save "$out"
+step fuzz "${run[@]}" "$out/check_fuzz" --seed "${CHECK_SEED:-1}" --cases "${CHECK_CASES:-30000}" \
+    --seconds "${CHECK_SECONDS:-75}" --save "$out"
 step linear "${run[@]}" "$out/check_fuzz" --time-linear
 # None that an older list left behind.
 rm -f "$out/examples/"*
