@@ -1,0 +1,31 @@
+-- What the steps of growth and shrinking ask and answer.
+use Prim.Native.Nat.{ℕ, _*_, _≤_}
+use mathlib.Core.Path.{_≡_}
+use mathlib.Core.List.{List}
+use lib.ListN.{length}
+use Rattle.layout.specs.Sizes.{fewest, most}
+use Rattle.layout.specs.declared.BlockId.{BlockId}
+use Rattle.blocks.specs.declared.growing.Took.{Took}
+use Rattle.blocks.specs.Taking.{Cursor, Growing}
+
+-- a card of nb blocks, as far as sizes go
+pub record Sizes (img : List ℕ) (nb : ℕ) : Type 0 where
+  pub few : fewest ≤ nb
+  pub many : nb ≤ most
+  pub long : 4096 * nb ≤ length img
+
+abbrev pub cursorAt : List ℕ → BlockId → Cursor
+cursorAt img from = record { img = img; from = from .0 }
+
+abbrev pub growingAt : List ℕ → Took → Growing
+growingAt img t = record { cur = record { img = img; from = t .from .0 }; inode = t .inode }
+
+-- the card and the answer are those of a cursor, of a growth
+pub record Moved (c : Cursor) (img : List ℕ) (r : BlockId) : Type 0 where
+  pub img-is : img ≡ c .img
+  pub from-is : r .0 ≡ c .from
+
+pub record Grew (g : Growing) (img : List ℕ) (r : Took) : Type 0 where
+  pub img-is : img ≡ g .cur .img
+  pub from-is : r .from .0 ≡ g .cur .from
+  pub inode-is : r .inode ≡ g .inode
