@@ -6,8 +6,8 @@ use Prim.Native.Nat.{ℕ, zero, suc, _+_, _-_, _*_, _/_, _%_, _≤_, _<_}
 use native.Mathlib.Omega.{arith}
 use native.Mathlib.Decide.{decLt}
 use borrow.Author.Tests.{lt-ltb, le-ltb}
-use lib.ListN.{length, getD, drop, length-drop}
-use lib.Seq.{ext-getD, getD-drop}
+use lib.ListN.{length, getD, take, drop, length-take, length-drop}
+use lib.Seq.{ext-getD, getD-take, getD-drop, take-all}
 use Rattle.words.proofs.Numbers.{num-moved}
 use Rattle.words.specs.Words.{byte, num, word}
 use Rattle.words.specs.Runs.{copied}
@@ -156,3 +156,30 @@ module _ (img : List ℕ) (n k : ℕ) where
 
   pub name-loaded : name img n k ≡ uptoNul (drop 4 (fileBytes img n (260 * k) 260))
   name-loaded = name-at img n k ∙ ap uptoNul (sym name-part)
+
+  -- the name's m = 256 bytes as a part of what was loaded, and as a part of the card where the entry stands in one block
+  pub name-cut : (f : List ℕ) (m : ℕ) → f ≡ fileBytes img n (260 * k) 260 → 256 ≤ m → name img n k ≡ uptoNul (take m (drop 4 f))
+  name-cut f m e l =
+      name-loaded
+      ∙ ap (λ (x : List ℕ). uptoNul (drop 4 x)) (sym e)
+      ∙ ap uptoNul (sym (take-all m (drop 4 f) (omega (arith, length-drop 4 f, ap length e, length-loaded))))
+
+  pub name-inside : (b a m : ℕ) → b ≡ dataAt img n (260 * k / 4096) → a ≡ 4096 * b + 260 * k % 4096 + 4 → m ≡ 256 → 260 * k % 4096 ≤ 3836 → a + m ≤ length img
+      → name img n k ≡ uptoNul (take m (drop a img))
+  name-inside b a m eb ea em fit l =
+      name-at img n k
+      ∙ ap uptoNul
+      (ext-getD 0 (fileBytes img n (260 * k + 4) 256) (take m (drop a img)) (omega (arith, long, length-fileBytes img n (260 * k + 4) 256))
+      (λ i h.
+      let q : i < 256 = omega (arith, length-fileBytes img n (260 * k + 4) 256) in
+      let s : 260 * k + 4 + i ≡ 260 * k + (4 + i) = omega arith in
+      let t : 4096 * dataAt img n (260 * k / 4096) + 260 * k % 4096 + (4 + i) ≡ a + i = omega arith in
+      getD-fileBytes img n (260 * k + 4) 256 i q
+      ∙ ap (fileByte img n) s
+      ∙ byte-here img n (260 * k) (4 + i) (omega arith)
+      ∙ ap (byte img) t
+      ∙ sym (getD-drop a img i 0)
+      ∙ sym (getD-take m (drop a img) i 0 (omega arith))))
+    where
+      long : length (take m (drop a img)) ≡ 256
+      long = omega (arith, length-take m (drop a img), length-drop a img)

@@ -11,6 +11,7 @@ use Rattle.words.specs.Words.{When}
 use Rattle.layout.specs.Entry.{uptoNul, Name}
 use Rattle.layout.proofs.Names.{nul-here, nul-next, nul-end, upto-no-nul}
 use Rattle.card.specs.View.{name, fileBytes}
+use Rattle.card.proofs.Views.{name-at}
 use Rattle.names.specs.Names.{hashOn}
 use Rattle.names.proofs.Entries.{name-loaded}
 
@@ -18,12 +19,13 @@ use Rattle.names.proofs.Entries.{name-loaded}
 abbrev pub left : List ℕ → ℕ → List ℕ
 left e i = uptoNul (drop i e)
 
--- the name of an entry that is loaded, and that it can be stored
+-- the name of an entry that is loaded
 pub name-in : (img : List ℕ) (n k : ℕ) (f : List ℕ) → f ≡ fileBytes img n (260 * k) 260 → name img n k ≡ left f 4
 name-in img n k f e = name-loaded img n k ∙ ap (λ (x : List ℕ). left x 4) (sym e)
 
-pub name-fits : (x : List ℕ) (f : List ℕ) → x ≡ left f 4 → 1 ≤ length (left f 4) → length (left f 4) ≤ 255 → Name x
-name-fits x f e a b = rw e (record { low = a; high = b; no-nul = upto-no-nul (drop 4 f) })
+-- a name that can be stored
+pub name-fits : (img : List ℕ) (n k : ℕ) → 1 ≤ length (name img n k) → length (name img n k) ≤ 255 → Name (name img n k)
+name-fits img n k a b = record { low = a; high = b; no-nul = rw name-at (upto-no-nul (fileBytes img n (260 * k + 4) 256)) }
 
 -- ---- its hash on top of a: where the scan ends, and one byte on
 
@@ -31,7 +33,7 @@ pub hash-none : (x : List ℕ) (a : ℕ) → x ≡ [] → hashOn x a ≡ a
 unfolding hashOn
 hash-none x a h = ap (λ (y : List ℕ). hashOn y a) h
 
-pub hash-next : (e : List ℕ) (i a : ℕ) → i < length e → (getD e i 0 ≡ 0 → ⊥) → hashOn (left e i) a ≡ hashOn (left e (i + 1)) ((a * 31 + getD e i 0) % 4294967296)
+pub hash-next : (e : List ℕ) (i a : ℕ) → i < length e → (getD e i 0 ≡ 0 → ⊥) → hashOn (left e i) a ≡ hashOn (left e (i + 1)) ((a * 2654435761 + getD e i 0) % 4294967296)
 unfolding hashOn
 hash-next e i a l d = ap (λ (y : List ℕ). hashOn y a) (nul-next e i l d)
 

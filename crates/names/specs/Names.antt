@@ -22,7 +22,7 @@ pub record Dots (img : List ℕ) (n : ℕ) : Type 0 where
 -- a 32-bit number made of a name, on top of a
 unfoldable pub hashOn : List ℕ → ℕ → ℕ
 hashOn [] a = a
-hashOn (x ∷ xs) a = hashOn xs ((a * 31 + x) % 4294967296)
+hashOn (x ∷ xs) a = hashOn xs ((a * 2654435761 + x) % 4294967296)
 
 abbrev pub hash : List ℕ → ℕ
 hash x = hashOn x 7

@@ -8,11 +8,12 @@ ghost use Rattle.words.specs.Words.{When};
 ghost use Rattle.words.specs.Runs.{zeroed};
 ghost use Rattle.layout.specs.Inode.{size, count};
 ghost use Rattle.layout.specs.Entry.{uptoNul};
-ghost use Rattle.card.specs.View.{name, entries, fileBytes};
+ghost use Rattle.card.specs.View.{name, entries, dataAt};
 ghost use Rattle.card.specs.Whole.{Inode, Dir};
 ghost use Rattle.names.specs.Reading.{Readable};
 ghost use Rattle.names.specs.Names.{Names, Dots, hash, tag, Chains, Alone, Window};
 use crate::reading;
+use layout::BlockId;
 use layout::INodeId;
 
 // A name's length, 256 where it has no NUL, and its hash.
@@ -27,23 +28,38 @@ fn wide(x: u8) -> u64
     x as u64
 }
 
-fn scan(e: &[u8; 260]) -> Scanned
-    ensures { λ r. ⌜ (r .len ≡ length (uptoNul (drop 4 (now (e .entry))))) × (r .hash ≡ hash (uptoNul (drop 4 (now (e .entry))))) ⌝ }
+fn scan(e: &[u8]) -> Scanned
+    requires { ⌜ length (now e) ≡ 256 ⌝ }
+    ensures { λ r. ⌜ (r .len ≡ length (uptoNul (now (e .entry)))) × (r .hash ≡ hash (uptoNul (now (e .entry)))) ⌝ }
 {
-    let b: &[u8] = e;
     let mut a: u64 = 7;
-    let mut i = 4;
-    while i < 260 {
-        if b[i] == 0 {
+    let mut i = 0;
+    while i < 256 {
+        if e[i] == 0 {
             break;
         }
-        a = (a * 31 + wide(b[i])) % 4294967296;
+        a = (a * 2654435761 + wide(e[i])) % 4294967296;
         i += 1;
     }
     Scanned {
-        len: i - 4,
+        len: i,
         hash: a as u32,
     }
+}
+
+// Scans the name of entry k, which begins in block b: where it stands if that is in one block.
+fn look(image: &[u8], n: INodeId, b: BlockId, k: usize) -> Scanned
+    requires { ⌜ Readable (now image) (n .0) × (260 * k + 260 ≤ 4096 * count (now image) (n .0)) × (b .0 ≡ dataAt (now image) (n .0) (260 * k / 4096)) ⌝ }
+    ensures { λ r. ⌜ (r .len ≡ length (name (now (image .entry)) (n .0) k)) × (r .hash ≡ hash (name (now (image .entry)) (n .0) k)) ⌝ }
+{
+    let r = 260 * k % 4096;
+    if 3836 < r {
+        let e = reading::load_entry(image, n, k);
+        return scan(&e[4..260]);
+    }
+    let at = 4096 * b.0 as usize + r + 4;
+    let end = at + 256;
+    scan(&image[at..end])
 }
 
 // Whether two entries have the same name.
@@ -77,7 +93,7 @@ pub fn zero(w: &mut [u32], n: usize)
     }
 }
 
-// Whether entry e's name, whose hash is v, differs from those of the k entries from lo on.
+// Whether entry j's name, whose hash is v, differs from those of the k entries from lo on.
 fn alone(
     image: &[u8],
     w: &[u32],
@@ -85,19 +101,20 @@ fn alone(
     h: usize,
     lo: usize,
     k: usize,
-    e: &[u8; 260],
+    j: usize,
     v: u32,
 ) -> bool
-    requires { ⌜ (0 < h) × (h + k ≤ length (now w)) × (k ≤ 65535) × Chains (now image) (n .0) (now w) h lo k × (260 * (lo + k) ≤ 4096 * count (now image) (n .0)) × Readable (now image) (n .0) × (v ≡ hash (uptoNul (drop 4 (now e)))) ⌝ }
-    ensures { λ r. ⌜ When r (Alone (now (image .entry)) (n .0) lo k (uptoNul (drop 4 (now (e .entry))))) (Alone (now (image .entry)) (n .0) lo k (uptoNul (drop 4 (now (e .entry)))) → ⊥) ⌝ }
+    requires { ⌜ (0 < h) × (h + k ≤ length (now w)) × (k ≤ 65535) × Chains (now image) (n .0) (now w) h lo k × (lo + k ≤ j) × (260 * j + 260 ≤ 4096 * count (now image) (n .0)) × Readable (now image) (n .0) × (v ≡ hash (name (now image) (n .0) j)) ⌝ }
+    ensures { λ r. ⌜ When r (Alone (now (image .entry)) (n .0) lo k (name (now (image .entry)) (n .0) j)) (Alone (now (image .entry)) (n .0) lo k (name (now (image .entry)) (n .0) j) → ⊥) ⌝ }
 {
     let t = v / 65536;
     let mut c = w[v as usize % h] as usize;
     while 0 < c {
         let x = w[h + (c - 1)];
         if x / 65536 == t {
-            let f = reading::load_entry(image, n, lo + (c - 1));
-            if same_name(&f, e) {
+            let e = reading::load_entry(image, n, lo + (c - 1));
+            let f = reading::load_entry(image, n, j);
+            if same_name(&e, &f) {
                 return false;
             }
         }
@@ -119,22 +136,26 @@ fn put(w: &mut [u32], h: usize, x: usize, v: u32)
 
 // Whether the names of the entries from lo on can be stored, and those of the first m of them differ from all later ones.
 fn window(image: &[u8], w: &mut [u32], n: INodeId, e: usize, h: usize, m: usize, lo: usize) -> bool
-    requires { ⌜ (0 < h) × (h + m ≤ length (now w)) × (m ≤ 65535) × (lo ≤ e) × (e ≡ entries (now image) (n .0)) × (e < 16777216) × (260 * e ≤ 4096 * count (now image) (n .0)) × Readable (now image) (n .0) ⌝ }
+    requires { ⌜ (0 < h) × (h + m ≤ length (now w)) × (m ≤ 65535) × (lo < e) × (e ≡ entries (now image) (n .0)) × (e < 16777216) × (260 * e ≤ 4096 * count (now image) (n .0)) × Readable (now image) (n .0) ⌝ }
     ensures { λ r. ⌜ (length (now (w .exit)) ≡ length (now (w .entry))) × When r (Window (now (image .entry)) (n .0) lo m e) (Names (now (image .entry)) (n .0) → ⊥) ⌝ }
 {
     zero(w, h);
+    let mut c = 260 * lo / 4096;
+    let mut b = reading::get_disk_block_id(image, n, c);
     let mut j = lo;
     let mut k = 0;
     while j < e {
-        let f = reading::load_entry(image, n, j);
-        let s = scan(&f);
+        let i = 260 * j / 4096;
+        b = reading::get_near(image, n, c, b, i);
+        c = i;
+        let s = look(image, n, b, j);
         if s.len < 1 {
             return false;
         }
         if 255 < s.len {
             return false;
         }
-        if !alone(image, w, n, h, lo, k, &f, s.hash) {
+        if !alone(image, w, n, h, lo, k, j, s.hash) {
             return false;
         }
         if k < m {

@@ -31,6 +31,17 @@ pub fn get_disk_block_id(image: &[u8], n: INodeId, i: usize) -> BlockId
     }
 }
 
+// Block i of file n, of which b is block c: going along a file, most blocks need no look-up.
+pub fn get_near(image: &[u8], n: INodeId, c: usize, b: BlockId, i: usize) -> BlockId
+    requires { ⌜ Readable (now image) (n .0) × (i < count (now image) (n .0)) × (b .0 ≡ dataAt (now image) (n .0) c) ⌝ }
+    ensures { λ r. ⌜ r .0 ≡ dataAt (now (image .entry)) (n .0) i ⌝ }
+{
+    if i == c {
+        return b;
+    }
+    get_disk_block_id(image, n, i)
+}
+
 // The number of entry k. It never crosses a block: 260 k is a multiple of 4.
 pub fn entry_number(image: &[u8], n: INodeId, k: usize) -> INodeId
     requires { ⌜ Readable (now image) (n .0) × (260 * k + 260 ≤ 4096 * count (now image) (n .0)) ⌝ }

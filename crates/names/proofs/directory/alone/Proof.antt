@@ -9,6 +9,7 @@ use Prim.Native.Nat.{ℕ, _-_, _+_, _/_, _%_}
 use lib.ListN.{drop, getD}
 use Rattle.words.proofs.Answers.{when-true, when-false}
 use Rattle.layout.specs.Entry.{uptoNul}
+use Rattle.card.specs.View.{name}
 use Rattle.names.specs.Names.{Last, bucketAt, tag}
 use Rattle.names.proofs.Scanning.{name-in}
 use Rattle.names.proofs.Chaining.{Passed, passed-none, passed-more}
@@ -16,10 +17,10 @@ use Rattle.names.proofs.directory.alone.Statement.{statement}
 use Rattle.names.proofs.directory.alone.Tie as tie
 
 abbrev Inv-loop : tie.InvT-loop
-Inv-loop image w n h lo k e v t c₀ c = Passed image (n .0) h lo k (uptoNul (drop 4 e)) c
+Inv-loop image w n h lo k j v t c₀ c = Passed image (n .0) h lo k (name image (n .0) j) c
 
 abbrev μ-loop : tie.MeasureT-loop
-μ-loop image w n h lo k e v t c₀ c = c
+μ-loop image w n h lo k j v t c₀ c = c
 
 rem-c : tie.Need-rem-c Inv-loop μ-loop
 rem-c c = omega arith
@@ -38,7 +39,7 @@ loop-holds c =
     let a = c .before .before .before .args in
     let p = c .before .before .before .pre in
     passed-none (a .image .now) (a .n .0) (a .h) (a .lo) (a .k) _ _
-    (subst (λ (q : ℕ). Last (bucketAt (a .image .now) (a .n .0) (a .h) (a .lo)) q (getD (a .w .now) (a .v % a .h) 0) (a .k)) (ap (λ (q : ℕ). q % a .h) (p .6))
+    (subst (λ (q : ℕ). Last (bucketAt (a .image .now) (a .n .0) (a .h) (a .lo)) q (getD (a .w .now) (a .v % a .h) 0) (a .k)) (ap (λ (q : ℕ). q % a .h) (p .7))
     (p .3 .heads (a .v % a .h) (mod-lt (a .v) (p .0))))
 
 sub-x : tie.Need-sub-x Inv-loop μ-loop
@@ -60,19 +61,23 @@ add-load-entry : tie.Need-add-load-entry Inv-loop μ-loop
 add-load-entry c = omega arith
 
 load-entry-requires : tie.Need-load-entry-requires Inv-loop μ-loop
-load-entry-requires c κs = (c .before .before .before .before .before .before .before .pre .5, omega arith)
+load-entry-requires c κs = (c .before .before .before .before .before .before .before .pre .6, omega arith)
+
+load-entry-requires-2 : tie.Need-load-entry-requires-2 Inv-loop μ-loop
+load-entry-requires-2 c κs = (c .before .before .before .before .before .before .before .before .pre .6, c .before .before .before .before .before .before .before .before .pre .5)
 
 same-name-requires : tie.Need-same-name-requires Inv-loop μ-loop
 same-name-requires c κs = tt
 
 returns : tie.Need-returns Inv-loop μ-loop
 returns c =
-    let a = c .before .before .before .before .before .before .before .before .before .before .before .args in
-    let l = c .before .before .before .before .before .before .before .loop in
-    λ f.
-    f (l .c - 1) (omega arith)
-    (name-in (a .image .now) (a .n .0) (a .lo + (l .c - 1)) _ (c .before .before .before .load-entry .ensures)
-    ∙ when-true (c .before .same-name .result) _ _ (c .if2 .taken) (c .before .same-name .ensures))
+    let a = c .before .before .before .before .before .before .before .before .before .before .before .before .before .args in
+    let l = c .before .before .before .before .before .before .before .before .before .loop in
+    λ d.
+    d (l .c - 1) (omega arith)
+    (name-in (a .image .now) (a .n .0) (a .lo + (l .c - 1)) _ (c .before .before .before .before .before .load-entry .ensures)
+    ∙ when-true (c .before .same-name .result) _ _ (c .if2 .taken) (c .before .same-name .ensures)
+    ∙ sym (name-in (a .image .now) (a .n .0) (a .j) _ (c .before .before .before .before .load-entry2 .ensures)))
 
 cast-c-2 : tie.Need-cast-c-2 Inv-loop μ-loop
 cast-c-2 c = omega arith
@@ -90,9 +95,9 @@ loop-again c =
     passed-more (a .image .now) (a .n .0) (a .h) (a .lo) (a .k) _ (l .c) _ (c .before .before .loop-test .taken) (l .inv) (p .3 .backs (l .c - 1) (omega arith))
     (⊎-elim
     (λ w q.
-    let d : uptoNul (drop 4 (w .1 .result)) ≡ uptoNul (drop 4 (a .e .now)) → ⊥ = when-false (w .3 .result) _ _ (w .4 .left) (w .3 .ensures) in
-    d (sym (name-in (a .image .now) (a .n .0) (a .lo + (l .c - 1)) _ (w .1 .ensures)) ∙ q))
-    (λ w q. w .left (p .3 .tags (l .c - 1) (omega arith) ∙ ap (λ (x : List ℕ). tag x) q ∙ ap (λ (x : ℕ). x / 65536) (sym (p .6))))
+    let d : uptoNul (drop 4 (w .1 .result)) ≡ uptoNul (drop 4 (w .2 .result)) → ⊥ = when-false (w .5 .result) _ _ (w .6 .left) (w .5 .ensures) in
+    d (sym (name-in (a .image .now) (a .n .0) (a .lo + (l .c - 1)) _ (w .1 .ensures)) ∙ q ∙ name-in (a .image .now) (a .n .0) (a .j) _ (w .2 .ensures)))
+    (λ w q. w .left (p .3 .tags (l .c - 1) (omega arith) ∙ ap (λ (x : List ℕ). tag x) q ∙ ap (λ (x : ℕ). x / 65536) (sym (p .7))))
     (c .if1 .came))
 
 returns-2 : tie.Need-returns-2 Inv-loop μ-loop
@@ -116,6 +121,7 @@ alone-spec =
     sub-load-entry
     add-load-entry
     load-entry-requires
+    load-entry-requires-2
     same-name-requires
     returns
     cast-c-2

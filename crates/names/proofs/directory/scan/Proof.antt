@@ -1,4 +1,4 @@
--- `names::directory::scan` meets its contract. The invariant: the name is i - 4 bytes and what is left of it from place i on, and its hash is that of
+-- `names::directory::scan` meets its contract. The invariant: the name is i bytes and what is left of it from place i on, and its hash is that of
 -- what is left, on top of a. Assumes nothing.
 use mathlib.Core.List.{[]}
 use native.Mathlib.Omega.{arith}
@@ -14,13 +14,13 @@ use Rattle.names.proofs.directory.scan.Statement.{statement}
 use Rattle.names.proofs.directory.scan.Tie as tie
 
 abbrev Inv-loop : tie.InvT-loop
-Inv-loop e b a₀ i₀ a i = (4 ≤ i) × (i ≤ 260) × (a < 4294967296) × (4 + length (left e 4) ≡ i + length (left e i)) × (hash (left e 4) ≡ hashOn (left e i) a)
+Inv-loop e a₀ i₀ a i = (i ≤ 256) × (a < 4294967296) × (length (left e 0) ≡ i + length (left e i)) × (hash (left e 0) ≡ hashOn (left e i) a)
 
 abbrev μ-loop : tie.MeasureT-loop
-μ-loop e b a₀ i₀ a i = 260 - i
+μ-loop e a₀ i₀ a i = 256 - i
 
 loop-holds : tie.Need-loop-holds Inv-loop μ-loop
-loop-holds c = (omega arith, omega arith, omega arith, refl, refl)
+loop-holds c = (omega arith, omega arith, omega arith, refl)
 
 shared-slice-read-if1 : tie.Need-shared-slice-read-if1 Inv-loop μ-loop
 shared-slice-read-if1 c = omega arith
@@ -48,13 +48,10 @@ loop-again c =
     let e = c .before .before .before .before .before .before .before .args .e .now in
     let l = c .before .before .before .before .before .loop in
     let s = ap length (nul-next e (l .i) (omega arith) (c .before .before .if1 .left)) in
-    (omega arith, omega arith, mod-lt _ (omega arith), omega arith, rw (c .wide .ensures .0) (l .inv .4 ∙ hash-next e (l .i) (l .a) (omega arith) (c .before .before .if1 .left)))
+    (omega arith, mod-lt _ (omega arith), omega arith, rw (c .wide .ensures .0) (l .inv .3 ∙ hash-next e (l .i) (l .a) (omega arith) (c .before .before .if1 .left)))
 
-sub-t13 : tie.Need-sub-t13 Inv-loop μ-loop
-sub-t13 c = omega arith
-
-cast-t14 : tie.Need-cast-t14 Inv-loop μ-loop
-cast-t14 c = omega arith
+cast-t11 : tie.Need-cast-t11 Inv-loop μ-loop
+cast-t11 c = omega arith
 
 returns : tie.Need-returns Inv-loop μ-loop
 returns c =
@@ -63,7 +60,7 @@ returns c =
     let none : left e (l .i) ≡ [] =
     ⊎-elim (λ w. nul-end e (l .i) (omega (arith, w .left))) (λ w. nul-here e (l .i) (omega (arith, w .0 .taken)) (w .2 .taken)) (c .loop-test .came) in
     let z = ap length none in
-    (omega arith, sym (l .inv .4 ∙ hash-none _ (l .a) none))
+    (omega arith, sym (l .inv .3 ∙ hash-none _ (l .a) none))
 
 pub scan-spec : {M : Type 1} → statement M
 scan-spec =
@@ -80,6 +77,5 @@ scan-spec =
     add-i
     loop-less
     loop-again
-    sub-t13
-    cast-t14
+    cast-t11
     returns)
