@@ -1,13 +1,13 @@
 -- Laws of reading a file's blocks and a directory's entries: the slot that a block falls in, bytes of a file by their blocks, an entry by the
 -- at most two runs that it stands in. Assumes nothing.
-use mathlib.Core.Path.{_≡_, refl, sym, ap, _∙_}
-use mathlib.Core.List.{List}
+use mathlib.Core.Path.{_≡_, refl, sym, ap, _∙_, subst}
+use mathlib.Core.List.{List, [], _∷_}
 use Prim.Native.Nat.{ℕ, zero, suc, _+_, _-_, _*_, _/_, _%_, _≤_, _<_}
 use native.Mathlib.Omega.{arith}
 use native.Mathlib.Decide.{decLt}
 use borrow.Author.Tests.{lt-ltb, le-ltb}
 use lib.ListN.{length, getD, take, drop, length-take, length-drop}
-use lib.Seq.{ext-getD, getD-take, getD-drop, take-all}
+use lib.Seq.{ext-getD, getD-take, getD-drop, take-all, length-take-le}
 use Rattle.words.proofs.Numbers.{num-moved}
 use Rattle.words.specs.Words.{byte, num, word}
 use Rattle.words.specs.Runs.{copied}
@@ -18,7 +18,7 @@ use Rattle.layout.specs.Entry.{uptoNul}
 use Rattle.layout.specs.declared.slot.Slot.{Slot}
 use Rattle.layout.specs.declared.slot.Slot.the-variants.{Direct, Indirect, Double, Past}
 use Rattle.card.specs.View.{dataAt, fileByte, fileBytes, entry, name}
-use Rattle.card.proofs.Views.{fileByte-at, entry-at, name-at, length-fileBytes, getD-fileBytes}
+use Rattle.card.proofs.Views.{data-past, fileByte-at, entry-at, name-at, length-fileBytes, getD-fileBytes}
 use Rattle.names.specs.Reading.{Readable}
 
 -- ---- the slot that block i falls in
@@ -164,22 +164,37 @@ module _ (img : List ℕ) (n k : ℕ) where
       ∙ ap (λ (x : List ℕ). uptoNul (drop 4 x)) (sym e)
       ∙ ap uptoNul (sym (take-all m (drop 4 f) (omega (arith, length-drop 4 f, ap length e, length-loaded))))
 
-  pub name-inside : (b a m : ℕ) → b ≡ dataAt img n (260 * k / 4096) → a ≡ 4096 * b + 260 * k % 4096 + 4 → m ≡ 256 → 260 * k % 4096 ≤ 3836 → a + m ≤ length img
-      → name img n k ≡ uptoNul (take m (drop a img))
-  name-inside b a m eb ea em fit l =
-      name-at img n k
-      ∙ ap uptoNul
-      (ext-getD 0 (fileBytes img n (260 * k + 4) 256) (take m (drop a img)) (omega (arith, long, length-fileBytes img n (260 * k + 4) 256))
-      (λ i h.
-      let q : i < 256 = omega (arith, length-fileBytes img n (260 * k + 4) 256) in
-      let s : 260 * k + 4 + i ≡ 260 * k + (4 + i) = omega arith in
-      let t : 4096 * dataAt img n (260 * k / 4096) + 260 * k % 4096 + (4 + i) ≡ a + i = omega arith in
-      getD-fileBytes img n (260 * k + 4) 256 i q
-      ∙ ap (fileByte img n) s
-      ∙ byte-here img n (260 * k) (4 + i) (omega arith)
-      ∙ ap (byte img) t
-      ∙ sym (getD-drop a img i 0)
-      ∙ sym (getD-take m (drop a img) i 0 (omega arith))))
-    where
-      long : length (take m (drop a img)) ≡ 256
-      long = omega (arith, length-take m (drop a img), length-drop a img)
+-- the place before any entry is block 0 of no slot
+pub nowhere-block : (img : List ℕ) (n i b : ℕ) → i ≡ 1049612 → b ≡ 0 → b ≡ dataAt img n i
+nowhere-block img n i b e z = z ∙ sym (ap (dataAt img n) e ∙ data-past img n 1049612 (omega arith))
+
+-- a NUL found in a part that begins where the list does ends the whole
+pub upto-prefix : (xs : List ℕ) (m : ℕ) → length (uptoNul (take m xs)) < m → m ≤ length xs → uptoNul xs ≡ uptoNul (take m xs)
+unfolding uptoNul
+upto-prefix xs zero h l = absurd (omega arith)
+upto-prefix [] (suc m) h l = absurd (omega arith)
+upto-prefix (zero ∷ xs) (suc m) h l = refl
+upto-prefix (suc x ∷ xs) (suc m) h l = ap (λ (t : List ℕ). suc x ∷ t) (upto-prefix xs m (omega arith) (omega arith))
+
+-- the name by the part of it that stands in the entry's first block, if that has its NUL
+pub name-near : (img : List ℕ) (n k b a m : ℕ) → b ≡ dataAt img n (260 * k / 4096) → a ≡ 4096 * b + 260 * k % 4096 + 4 → m ≤ 256 → 260 * k % 4096 + m ≤ 4092 → a + m ≤ length img
+    → length (uptoNul (take m (drop a img))) < m → name img n k ≡ uptoNul (take m (drop a img))
+name-near img n k b a m eb ea em fit l h =
+    let f : List ℕ = fileBytes img n (260 * k + 4) 256 in
+    let long : length f ≡ 256 = length-fileBytes img n (260 * k + 4) 256 in
+    let tl : length (take m f) ≡ m = length-take-le m f (omega arith) in
+    let dl : length (take m (drop a img)) ≡ m = length-take-le m (drop a img) (omega (arith, length-drop a img)) in
+    let e : take m (drop a img) ≡ take m f =
+    ext-getD 0 (take m (drop a img)) (take m f) (dl ∙ sym tl)
+    (λ i q.
+    let p : i < m = omega arith in
+    let s : 260 * k + 4 + i ≡ 260 * k + (4 + i) = omega arith in
+    let t : a + i ≡ 4096 * dataAt img n (260 * k / 4096) + 260 * k % 4096 + (4 + i) = omega arith in
+    getD-take m (drop a img) i 0 p
+    ∙ getD-drop a img i 0
+    ∙ ap (byte img) t
+    ∙ sym (byte-here img n (260 * k) (4 + i) (omega arith))
+    ∙ ap (fileByte img n) (sym s)
+    ∙ sym (getD-fileBytes img n (260 * k + 4) 256 i (omega arith))
+    ∙ sym (getD-take m f i 0 p)) in
+    name-at img n k ∙ upto-prefix f m (subst (λ (x : List ℕ). length (uptoNul x) < m) e h) (omega arith) ∙ ap uptoNul (sym e)

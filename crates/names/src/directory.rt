@@ -29,12 +29,12 @@ fn wide(x: u8) -> u64
 }
 
 fn scan(e: &[u8]) -> Scanned
-    requires { ⌜ length (now e) ≡ 256 ⌝ }
+    requires { ⌜ length (now e) ≤ 256 ⌝ }
     ensures { λ r. ⌜ (r .len ≡ length (uptoNul (now (e .entry)))) × (r .hash ≡ hash (uptoNul (now (e .entry)))) ⌝ }
 {
     let mut a: u64 = 7;
     let mut i = 0;
-    while i < 256 {
+    while i < e.len() {
         if e[i] == 0 {
             break;
         }
@@ -47,19 +47,37 @@ fn scan(e: &[u8]) -> Scanned
     }
 }
 
-// Scans the name of entry k, which begins in block b: where it stands if that is in one block.
+// How much of a name stands in the block in which its entry begins, at byte r.
+fn part_of(r: usize) -> usize
+    requires { ⌜ r ≤ 4092 ⌝ }
+    ensures { λ x. ⌜ x ≡ min 256 (4092 - r) ⌝ }
+{
+    if r <= 3836 { 256 } else { 4092 - r }
+}
+
+// Scans the name of entry k, wherever it stands.
+fn look_far(image: &[u8], n: INodeId, k: usize) -> Scanned
+    requires { ⌜ Readable (now image) (n .0) × (260 * k + 260 ≤ 4096 * count (now image) (n .0)) ⌝ }
+    ensures { λ r. ⌜ (r .len ≡ length (name (now (image .entry)) (n .0) k)) × (r .hash ≡ hash (name (now (image .entry)) (n .0) k)) ⌝ }
+{
+    let e = reading::load_entry(image, n, k);
+    scan(&e[4..260])
+}
+
+// Scans the name of entry k, which begins in block b: where it stands, if its NUL stands there too.
 fn look(image: &[u8], n: INodeId, b: BlockId, k: usize) -> Scanned
     requires { ⌜ Readable (now image) (n .0) × (260 * k + 260 ≤ 4096 * count (now image) (n .0)) × (b .0 ≡ dataAt (now image) (n .0) (260 * k / 4096)) ⌝ }
     ensures { λ r. ⌜ (r .len ≡ length (name (now (image .entry)) (n .0) k)) × (r .hash ≡ hash (name (now (image .entry)) (n .0) k)) ⌝ }
 {
     let r = 260 * k % 4096;
-    if 3836 < r {
-        let e = reading::load_entry(image, n, k);
-        return scan(&e[4..260]);
-    }
+    let m = part_of(r);
     let at = 4096 * b.0 as usize + r + 4;
-    let end = at + 256;
-    scan(&image[at..end])
+    let end = at + m;
+    let s = scan(&image[at..end]);
+    if s.len < m {
+        return s;
+    }
+    look_far(image, n, k)
 }
 
 // Whether two entries have the same name.

@@ -52,6 +52,40 @@ pub fn entry_number(image: &[u8], n: INodeId, k: usize) -> INodeId
     INodeId(words::get32(image, 4096 * b.0 as usize + o % 4096))
 }
 
+// Where a reader of entries stands: a file block, its number, and the number in the entry that was read last.
+pub struct Near {
+    pub index: usize,
+    pub block: BlockId,
+    pub number: INodeId,
+}
+
+// The place before any entry: past the last slot, where block 0 stands for none.
+pub fn nowhere(n: INodeId) -> Near
+    ensures { λ r. ⌜ (r .index ≡ 1049612) × (r .block .0 ≡ 0) ⌝ }
+{
+    Near {
+        index: 1049612,
+        block: BlockId(0),
+        number: n,
+    }
+}
+
+// Entry k, read from place p: its block is looked up only where it is another one.
+pub fn entry_after(image: &[u8], n: INodeId, p: Near, k: usize) -> Near
+    requires { ⌜ Readable (now image) (n .0) × (260 * k + 260 ≤ 4096 * count (now image) (n .0)) × (p .block .0 ≡ dataAt (now image) (n .0) (p .index)) ⌝ }
+    ensures { λ r. ⌜ (r .block .0 ≡ dataAt (now (image .entry)) (n .0) (r .index)) × (r .number .0 ≡ entry (now (image .entry)) (n .0) k) ⌝ }
+{
+    let o = 260 * k;
+    let i = o / 4096;
+    let b = get_near(image, n, p.index, p.block, i);
+    let number = INodeId(words::get32(image, 4096 * b.0 as usize + o % 4096));
+    Near {
+        index: i,
+        block: b,
+        number,
+    }
+}
+
 // How much of an entry at offset r of its block stands in that block.
 fn run_at(r: usize) -> usize
     requires { ⌜ r < 4096 ⌝ }

@@ -49,9 +49,11 @@ fn family(image: &[u8], n: INodeId, e: usize) -> Kin
     ensures { λ r. ⌜ Kinds r (Kept (now (image .entry)) (n .0)) (Ups (now (image .entry)) (n .0) → ⊥) ⌝ }
 {
     let mut c = 0;
+    let mut p = reading::nowhere(n);
     let mut j = 0;
     while j < e {
-        let m = reading::entry_number(image, n, 2 + j);
+        p = reading::entry_after(image, n, p, 2 + j);
+        let m = p.number;
         if is_dir(image, m) {
             let up = reading::entry_number(image, m, 1);
             if up.0 != n.0 {

@@ -38,9 +38,11 @@ pub fn scan(image: &[u8], s: &mut [u32], nb: usize, n: INodeId, e: usize, t: usi
     ensures { λ r. ⌜ Ends r (λ t′. Scanned (now (image .entry)) (now (s .entry)) (now (s .exit)) nb (n .0) t t′) (Lost (now (image .entry)) (now (s .entry)) nb (n .0)) ⌝ }
 {
     let mut end = t;
+    let mut p = reading::nowhere(n);
     let mut j = 0;
     while j < e {
-        let m = reading::entry_number(image, n, 2 + j);
+        p = reading::entry_after(image, n, p, 2 + j);
+        let m = p.number;
         let at = m.0 as usize;
         if nb <= at {
             return End::Bad;

@@ -14,10 +14,10 @@ use Rattle.names.proofs.directory.scan.Statement.{statement}
 use Rattle.names.proofs.directory.scan.Tie as tie
 
 abbrev Inv-loop : tie.InvT-loop
-Inv-loop e a₀ i₀ a i = (i ≤ 256) × (a < 4294967296) × (length (left e 0) ≡ i + length (left e i)) × (hash (left e 0) ≡ hashOn (left e i) a)
+Inv-loop e a₀ i₀ a i = (i ≤ length e) × (a < 4294967296) × (length (left e 0) ≡ i + length (left e i)) × (hash (left e 0) ≡ hashOn (left e i) a)
 
 abbrev μ-loop : tie.MeasureT-loop
-μ-loop e a₀ i₀ a i = 256 - i
+μ-loop e a₀ i₀ a i = length e - i
 
 loop-holds : tie.Need-loop-holds Inv-loop μ-loop
 loop-holds c = (omega arith, omega arith, omega arith, refl)
@@ -50,8 +50,8 @@ loop-again c =
     let s = ap length (nul-next e (l .i) (omega arith) (c .before .before .if1 .left)) in
     (omega arith, mod-lt _ (omega arith), omega arith, rw (c .wide .ensures .0) (l .inv .3 ∙ hash-next e (l .i) (l .a) (omega arith) (c .before .before .if1 .left)))
 
-cast-t11 : tie.Need-cast-t11 Inv-loop μ-loop
-cast-t11 c = omega arith
+cast-t12 : tie.Need-cast-t12 Inv-loop μ-loop
+cast-t12 c = omega arith
 
 returns : tie.Need-returns Inv-loop μ-loop
 returns c =
@@ -77,5 +77,5 @@ scan-spec =
     add-i
     loop-less
     loop-again
-    cast-t11
+    cast-t12
     returns)
