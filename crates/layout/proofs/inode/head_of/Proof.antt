@@ -69,7 +69,16 @@ get64-requires c κs = search needs
 
 -- src/inode.rt:47:1
 returns : tie.Need-returns
-returns c = cc
+returns c =
+    rw (
+      ← c .before .before .before .before .before .before .get32 .ensures,
+      ← c .before .before .before .before .before .get16 .ensures,
+      ← c .before .before .before .before .get322 .ensures,
+      ← c .before .before .before .get323 .ensures,
+      ← c .before .before .get324 .ensures,
+      ← c .before .get325 .ensures,
+      ← c .get64 .ensures,
+    )
 
 pub head-of-spec : {M : Type 1} → statement M
 head-of-spec =

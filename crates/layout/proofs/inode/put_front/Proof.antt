@@ -1,3 +1,8 @@
+use Prim.Native.Nat.{ℕ, _+_}
+use mathlib.Core.Path.{ap, _∙_}
+use mathlib.Core.List.{List}
+use denote.Ref.{now}
+use Rattle.words.specs.Words.{putHalf, putWord}
 use Rattle.layout.specs.Inode.{putFront}
 use borrow.Author.Needs.{needs}
 use Rattle.layout.proofs.inode.put_front.Statement.{statement}
@@ -47,7 +52,16 @@ same-length c = search needs
 -- src/inode.rt:111:1
 returns : tie.Need-returns
 unfolding putFront
-returns c = cc
+returns c =
+    let a = c .before .before .before .before .before .before .before .before .before .before .before .before .before .before .before .before .before .before .args in
+    let k = c .before .before .before .before .before .before .before .before .before .before .before .before .before .before .before .before .kind-no in
+    c .before .before .put322 .ensures
+    ∙ ap (λ (l : List ℕ). putWord l (a .at + 8) (a .h .blocks)) (c .before .before .before .before .before .before .put162 .ensures)
+    ∙ ap (λ (l : List ℕ). putWord (putHalf l (a .at + 6) (a .h .nlinks)) (a .at + 8) (a .h .blocks)) (c .before .before .before .before .before .before .before .before .before .before .put16 .ensures)
+    ∙ ap (λ (l : List ℕ). putWord (putHalf (putHalf l (a .at + 4) (k .result)) (a .at + 6) (a .h .nlinks)) (a .at + 8) (a .h .blocks)) (c .before .before .before .before .before .before .before .before .before .before .before .before .before .before .put32 .ensures)
+    ∙ ap
+    (λ (x : ℕ). putWord (putHalf (putHalf (putWord (now (a .image)) (a .at) (a .h .size)) (a .at + 4) x) (a .at + 6) (a .h .nlinks)) (a .at + 8) (a .h .blocks))
+    (k .ensures)
 
 pub put-front-spec : {M : Type 1} → statement M
 put-front-spec =
