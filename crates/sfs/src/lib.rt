@@ -4,6 +4,8 @@ ghost use Rattle.walk.specs.Opening.{statusOf, blocksOf, unusedOf};
 ghost use Rattle.sfs.specs.Check.{Checked};
 use walk::Opened;
 
+pub mod said;
+
 // 01's number of an answer.
 pub fn status_of(r: Opened) -> u32
     ensures { λ x. ⌜ x ≡ statusOf r ⌝ }

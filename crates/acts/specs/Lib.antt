@@ -1,0 +1,7 @@
+pub mod Names
+pub mod Answers
+pub mod Create
+pub mod Link
+pub mod Unlink
+pub mod Move
+pub mod Format

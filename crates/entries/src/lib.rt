@@ -1,0 +1,1 @@
+// A directory's entries: read, written, found by name, appended and removed.

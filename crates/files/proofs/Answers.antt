@@ -1,0 +1,143 @@
+-- The tests before a call, case by case, and the head of a file. Assumes nothing.
+use mathlib.Core.Path.{_≡_, refl, sym, ap, _∙_}
+use mathlib.Core.Bool.{Bool, true, false}
+use mathlib.Core.List.{List, [], _∷_}
+use types.Run.{OneOf, miss}
+use denote.Enum.Declared.{tagOf}
+use Prim.Native.Nat.{ℕ, _+_, _-_, _*_, _/_, _≤_, _<_}
+use native.Mathlib.Omega.{arith}
+use native.Mathlib.Decide.{decLt}
+use lib.Dec.{ltb, eqb}
+use Rattle.words.specs.Words.{pick}
+use Rattle.layout.specs.Sizes.{blocksFor}
+use Rattle.layout.specs.Slots.{owned}
+use Rattle.layout.specs.Inode.{size, count, kind, headAt, headBy, decoded}
+use Rattle.layout.specs.declared.inode.FileType.{FileType}
+use Rattle.layout.specs.declared.inode.FileType.the-variants.{File, Dir, SymLink}
+use Rattle.layout.specs.declared.inode.Head.{Head}
+use Rattle.layout.specs.declared.inode.Decoded.{Decoded}
+use Rattle.layout.specs.declared.inode.Decoded.the-variants.{Good, BadKind}
+use Rattle.blocks.proofs.Picks.{pick-both, pick-yes, pick-no}
+use Rattle.files.specs.Requests.{longest, byKind, byFile, needs, judged, onDone, writeJudged}
+use Rattle.files.proofs.Filed.{the-type as filed-type}
+use Rattle.files.specs.declared.Filed.{Filed}
+use Rattle.files.specs.declared.Filed.the-variants.{Done, NotFile, InvalidParam, NoDeviceSpace}
+
+-- ---- a new length
+
+-- enough for the code's sums
+pub owned-below : (b : ℕ) → owned b ≤ 2 * b + 3
+unfolding owned
+owned-below b =
+    let p = pick-both (λ x. x ≤ 1) (ltb b 12) 0 1 (omega arith) (omega arith) in
+    let q = pick-both (λ x. x ≤ 2 + b) (ltb b 1036) 0 (2 + (b - 1036) / 1024) (omega arith) (omega arith) in
+    omega (arith, p, q)
+
+module _ (u : ℕ) (h : Head) (len : ℕ) where
+  pub judged-long : longest < len → judged u h len ≡ InvalidParam
+  unfolding judged
+  judged-long l = pick-yes longest len _ _ l
+
+  pub judged-full : len ≤ longest → u + owned (h .blocks) < owned (blocksFor len) → judged u h len ≡ NoDeviceSpace
+  unfolding judged
+  judged-full l m = pick-no longest len _ _ l ∙ pick-yes u (needs (h .blocks) len) _ _ (omega arith)
+
+  pub judged-fits : len ≤ longest → owned (blocksFor len) ≤ u + owned (h .blocks) → judged u h len ≡ Done 0
+  unfolding judged
+  judged-fits l m = pick-no longest len _ _ l ∙ pick-no u (needs (h .blocks) len) _ _ (omega arith)
+
+  -- what is taken on is a length
+  pub judged-within : (k : ℕ) → judged u h len ≡ Done k → len ≤ longest
+  judged-within k e = go (decLt longest len)
+    where
+      go : Dec (longest < len) → len ≤ longest
+      go (no m) = omega arith
+      go (yes m) =
+          let q : InvalidParam ≡ Done k = sym (judged-long m) ∙ e in
+          let z : _≡_ {A = ℕ} 0 1 = cc in
+          absurd (omega arith)
+
+  pub write-past : h .size < len → writeJudged u h len ≡ judged u h len
+  unfolding writeJudged
+  write-past l = pick-yes (h .size) len _ _ l
+
+  pub write-inside : len ≤ h .size → writeJudged u h len ≡ Done 0
+  unfolding writeJudged
+  write-inside l = pick-no (h .size) len _ _ l
+
+  pub write-within : h .size ≤ longest → (k : ℕ) → writeJudged u h len ≡ Done k → len ≤ longest
+  write-within s k e = go (decLt (h .size) len)
+    where
+      go : Dec (h .size < len) → len ≤ longest
+      go (no m) = omega arith
+      go (yes m) = judged-within k (sym (write-past m) ∙ e)
+
+pub on-done : {A : Type 0} (j : Filed) (k : ℕ) (x r : A) → j ≡ Done k → onDone j x r ≡ x
+on-done j k x r e = ap (λ (f : Filed). onDone f x r) e
+
+-- an answer that is no `Done`: its tag is one of the others
+pub on-refused : {A : Type 0} (j : Filed) (x r : A) → OneOf (1 ∷ 2 ∷ 3 ∷ []) (tagOf filed-type j) → onDone j x r ≡ r
+on-refused (Done k) x r t = absurd (miss (1 ∷ 2 ∷ 3 ∷ []) 0 tt t)
+on-refused NotFile x r t = refl
+on-refused InvalidParam x r t = refl
+on-refused NoDeviceSpace x r t = refl
+
+-- ---- the head of a file
+
+-- the head itself, where it is no directory's
+abbrev pub headOf : Decoded → Decoded
+headOf d = byFile d BadKind (λ h. Good h)
+
+pub head-case : (d : Decoded) (h : Head) (k : FileType) → d ≡ Good h → h .«type_» ≡ k → headOf d ≡ byKind k BadKind (Good h)
+head-case d h k e q = ap headOf e ∙ ap (λ (t : FileType). byKind t BadKind (Good h)) q
+
+no-head : (h : Head) → Good h ≡ BadKind → ⊥
+no-head h e = let z : _≡_ {A = ℕ} 0 1 = cc in omega arith
+
+module _ {A : Type 0} (r : A) (f : Head → A) where
+  kind-good : (k : FileType) (h g : Head) → byKind k BadKind (Good h) ≡ Good g → byKind k r (f h) ≡ f g
+  kind-good File h g e = let q : h ≡ g = cc in ap f q
+  kind-good Dir h g e = absurd (no-head g (sym e))
+  kind-good SymLink h g e = let q : h ≡ g = cc in ap f q
+
+  kind-bad : (k : FileType) (h : Head) → byKind k BadKind (Good h) ≡ BadKind → byKind k r (f h) ≡ r
+  kind-bad File h e = absurd (no-head h e)
+  kind-bad Dir h e = refl
+  kind-bad SymLink h e = absurd (no-head h e)
+
+  pub file-good : (d : Decoded) (g : Head) → headOf d ≡ Good g → byFile d r f ≡ f g
+  file-good (Good h) g e = kind-good (h .«type_») h g e
+  file-good BadKind g e = absurd (no-head g (sym e))
+
+  pub file-bad : (d : Decoded) → headOf d ≡ BadKind → byFile d r f ≡ r
+  file-bad (Good h) e = kind-bad (h .«type_») h e
+  file-bad BadKind e = refl
+
+-- a head that is answered is the card's
+kind-same : (k : FileType) (h g : Head) → byKind k BadKind (Good h) ≡ Good g → Good h ≡ Good g
+kind-same File h g e = e
+kind-same Dir h g e = absurd (no-head g (sym e))
+kind-same SymLink h g e = e
+
+pub file-same : (d : Decoded) (g : Head) → headOf d ≡ Good g → d ≡ Good g
+file-same (Good h) g e = kind-same (h .«type_») h g e
+file-same BadKind g e = e
+
+module _ (img : List ℕ) (n : ℕ) (h : Head) where
+  of-kind : (t : FileType) → Good (headAt img n t) ≡ Good h → (h .blocks ≡ count img n) × (h .size ≡ size img n)
+  of-kind t e = let q : h ≡ headAt img n t = cc in (ap (λ (x : Head). x .blocks) q, ap (λ (x : Head). x .size) q)
+
+  of-tests : (a b c : Bool)
+      → pick a (Good (headAt img n File)) (pick b (Good (headAt img n Dir)) (pick c (Good (headAt img n SymLink)) BadKind)) ≡ Good h
+      → (h .blocks ≡ count img n) × (h .size ≡ size img n)
+  of-tests true b c e = of-kind File e
+  of-tests false true c e = of-kind Dir e
+  of-tests false false true e = of-kind SymLink e
+  of-tests false false false e = absurd (no-head h (sym e))
+
+  -- and has the blocks of its size, where the record has
+  pub head-counted : headOf (decoded img n) ≡ Good h → count img n ≡ blocksFor (size img n) → h .blocks ≡ blocksFor (h .size)
+  unfolding headBy
+  head-counted e c =
+      let f = of-tests (eqb (kind img n) 1) (eqb (kind img n) 2) (eqb (kind img n) 3) (file-same (decoded img n) h e) in
+      rw (f .0, f .1) c

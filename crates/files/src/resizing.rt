@@ -1,0 +1,104 @@
+// The act of a length change, of an inode of any kind: d is the record of inode n as the card has it, nb the card's block count.
+ghost use mathlib.Core.Path.{_≡_};
+ghost use Prim.Native.Nat.{_*_, _≤_, _<_};
+ghost use lib.ListN.{length};
+ghost use Rattle.layout.specs.Sizes.{blocksFor};
+ghost use Rattle.blocks.specs.Steps.{Sizes};
+ghost use Rattle.files.specs.Resizing.{ofLength, lengthened, cleaned, longer, shorter, resized};
+use blocks::filling;
+use blocks::growing;
+use blocks::growing::Took;
+use blocks::pieces;
+use blocks::shrinking;
+use layout::BlockId;
+use layout::INodeId;
+use layout::inode;
+use layout::inode::DiskINode;
+
+pub fn blocks_for(len: usize) -> usize
+    requires { ⌜ len ≤ 4294967295 ⌝ }
+    ensures { λ r. ⌜ r ≡ blocksFor len ⌝ }
+{
+    pieces::after_of(len)
+}
+
+// The record with a length, and the blocks that it then has.
+fn of_length(d: DiskINode, len: u32) -> DiskINode
+    ensures { λ r. ⌜ r ≡ ofLength d len ⌝ }
+{
+    let b = blocks_for(len as usize);
+    let e = d.set_size(len);
+    e.set_blocks(b as u32)
+}
+
+// The bytes off to end of file n zero.
+fn clean_at(image: &mut [u8], nb: usize, n: INodeId, off: usize, end: usize)
+    requires { ⌜ (4096 * nb ≤ length (now image)) × (n .0 < nb) × (off ≤ end) × (end ≤ 4294967295) ⌝ }
+    ensures { λ _. ⌜ now (image .exit) ≡ cleaned nb (n .0) off end (now (image .entry)) ⌝ }
+{
+    let none: [u8; 0] = [];
+    filling::fill_at(image, nb, n, off, end, true, &none);
+}
+
+// What is new of a longer file, from its old size on: those bytes, and no others.
+fn clean_new(image: &mut [u8], nb: u32, n: INodeId, old: u32, new: u32)
+    requires { ⌜ Sizes (now image) nb × (n .0 < nb) × (old ≤ new) ⌝ }
+    ensures { λ _. ⌜ now (image .exit) ≡ cleaned nb (n .0) old new (now (image .entry)) ⌝ }
+{
+    clean_at(image, nb as usize, n, old as usize, new as usize);
+}
+
+// The blocks of a longer file taken, and the record written.
+fn take_for(image: &mut [u8], nb: u32, n: INodeId, d: DiskINode, len: u32)
+    requires { ⌜ Sizes (now image) nb × (n .0 < nb) × (d .head .blocks ≤ blocksFor len) ⌝ }
+    ensures { λ _. ⌜ now (image .exit) ≡ lengthened nb (n .0) d len (now (image .entry)) ⌝ }
+{
+    let b = blocks_for(len as usize);
+    let t = Took {
+        inode: d,
+        from: BlockId(0),
+    };
+    let r = growing::grow(image, nb, d.head.blocks as usize, b, t);
+    let e = r.inode;
+    inode::encode(image, n, of_length(e, len));
+}
+
+// The block count grows: what is new reads as zeros.
+fn lengthen(image: &mut [u8], nb: u32, n: INodeId, d: DiskINode, len: u32)
+    requires { ⌜ Sizes (now image) nb × (n .0 < nb) × (d .head .blocks ≤ blocksFor len) × (d .head .size ≤ len) ⌝ }
+    ensures { λ _. ⌜ now (image .exit) ≡ longer nb (n .0) d len (now (image .entry)) ⌝ }
+{
+    take_for(image, nb, n, d, len);
+    clean_new(image, nb, n, d.head.size, len);
+}
+
+// It gets less: blocks are freed, and no byte is zeroed.
+fn shorten(image: &mut [u8], nb: u32, n: INodeId, d: DiskINode, len: u32)
+    requires { ⌜ Sizes (now image) nb × (n .0 < nb) × (blocksFor len ≤ d .head .blocks) × (d .head .blocks ≤ 1048576) ⌝ }
+    ensures { λ _. ⌜ now (image .exit) ≡ shorter nb (n .0) d len (now (image .entry)) ⌝ }
+{
+    let a = d.head.blocks as usize;
+    let b = blocks_for(len as usize);
+    shrinking::shrink(image, nb, n, d, b, a);
+    let e = shrinking::less_indirect(d, b, a);
+    let f = shrinking::less_double(e, b, a);
+    inode::encode(image, n, of_length(f, len));
+}
+
+// The length of inode n becomes len. A count that stays changes no block, so that bytes appear as the last block holds them.
+pub fn resize_to(image: &mut [u8], nb: u32, n: INodeId, d: DiskINode, len: u32)
+    requires { ⌜ Sizes (now image) nb × (n .0 < nb) × (d .head .blocks ≡ blocksFor (d .head .size)) ⌝ }
+    ensures { λ _. ⌜ now (image .exit) ≡ resized nb (n .0) d len (now (image .entry)) ⌝ }
+{
+    let a = d.head.blocks as usize;
+    let b = blocks_for(len as usize);
+    if a < b {
+        lengthen(image, nb, n, d, len);
+        return;
+    }
+    if b < a {
+        shorten(image, nb, n, d, len);
+        return;
+    }
+    inode::encode(image, n, d.set_size(len));
+}

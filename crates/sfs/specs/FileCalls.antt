@@ -1,0 +1,51 @@
+-- The statements of read, write and resize: for every image, scratch, buffer and numbers one answer, and the image, buffer and scratch afterwards (s and
+-- s′ are the scratch before and after).
+use Prim.Native.Nat.{ℕ}
+use mathlib.Core.Path.{_≡_}
+use mathlib.Core.List.{List}
+use lib.ListN.{length}
+use Rattle.layout.specs.Super.{blocks}
+use Rattle.walk.specs.declared.Opened.{Opened}
+use Rattle.walk.specs.Opening.{Opening}
+use Rattle.files.specs.Requests.{resizeAnswer, resizeCard, writeAnswer, writeCard, readAnswer, readBuffer}
+use Rattle.sfs.specs.Said.{saidNo, saidValue, ifOpen, ofOpened, ofFiled}
+use Rattle.sfs.specs.declared.said.Said.{Said}
+
+-- buf′ is the buffer after a read of as many bytes as it has, from off on
+pub record Read (img s s′ buf buf′ : List ℕ) (n off : ℕ) (r : Said) : Type 0 where
+  pub opened : Opened
+  pub opening : Opening img s s′ n n opened
+  pub said : r ≡ ifOpen opened (ofFiled (readAnswer img n off (length buf))) (ofOpened opened)
+  pub buffer : buf′ ≡ ifOpen opened (readBuffer (blocks img) img n off buf) buf
+
+-- img′ is the image after the bytes of src have been written from off on
+pub record Written (img img′ s s′ src : List ℕ) (n off : ℕ) (r : Said) : Type 0 where
+  pub opened : Opened
+  pub opening : Opening img s s′ n n opened
+  pub said : r ≡ ifOpen opened (ofFiled (writeAnswer img n off src)) (ofOpened opened)
+  pub image : img′ ≡ ifOpen opened (writeCard (blocks img) img n off src) img
+
+pub record Sized (img img′ s s′ : List ℕ) (n len : ℕ) (r : Said) : Type 0 where
+  pub opened : Opened
+  pub opening : Opening img s s′ n n opened
+  pub said : r ≡ ifOpen opened (ofFiled (resizeAnswer img n len)) (ofOpened opened)
+  pub image : img′ ≡ ifOpen opened (resizeCard (blocks img) img n len) img
+
+-- ---- as C calls them: the number, and the value behind a pointer
+
+pub record ReadC (img s s′ buf buf′ : List ℕ) (n off status count : ℕ) : Type 0 where
+  pub answer : Said
+  pub call : Read img s s′ buf buf′ n off answer
+  pub status-is : status ≡ saidNo answer
+  pub count-is : count ≡ saidValue answer
+
+pub record WrittenC (img img′ s s′ src : List ℕ) (n off status count : ℕ) : Type 0 where
+  pub answer : Said
+  pub call : Written img img′ s s′ src n off answer
+  pub status-is : status ≡ saidNo answer
+  pub count-is : count ≡ saidValue answer
+
+pub record SizedC (img img′ s s′ : List ℕ) (n len status : ℕ) : Type 0 where
+  pub answer : Said
+  pub call : Sized img img′ s s′ n len answer
+  pub status-is : status ≡ saidNo answer
