@@ -18,7 +18,7 @@ use Rattle.blocks.specs.Taking.{nextFree}
 use Rattle.files.specs.Resizing.{resized}
 use Rattle.files.specs.Requests.{needs, recordWith}
 use Rattle.entries.specs.Entries.{whereIs, entryPut, appended}
-use Rattle.acts.specs.Names.{dot, dots, storable}
+use Rattle.entries.specs.Names.{dot, dots, storable}
 use Rattle.acts.specs.Answers.{ifDone, isDir, ofHead, fullLinks}
 use Rattle.acts.specs.declared.Acted.{Acted}
 use Rattle.acts.specs.declared.Acted.the-variants.{Done, NotDir, BadName, EntryExist, InvalidParam, TooManyLinks, NoDeviceSpace}

@@ -15,7 +15,7 @@ use Rattle.layout.specs.declared.superblock.SuperBlock.{SuperBlock}
 use Rattle.layout.specs.declared.inode.FileType.the-variants.{Dir}
 use Rattle.layout.specs.declared.inode.DiskINode.{DiskINode}
 use Rattle.freemap.specs.Bits.{setBit}
-use Rattle.acts.specs.Names.{dot, dots}
+use Rattle.entries.specs.Names.{dot, dots}
 use Rattle.acts.specs.Answers.{ifDone}
 use Rattle.acts.specs.declared.Acted.{Acted}
 use Rattle.acts.specs.declared.Acted.the-variants.{Done, InvalidParam}

@@ -1,4 +1,3 @@
-pub mod Names
 pub mod Answers
 pub mod Create
 pub mod Link

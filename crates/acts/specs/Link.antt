@@ -12,7 +12,7 @@ use Rattle.layout.specs.declared.inode.DiskINode.{DiskINode}
 use Rattle.card.specs.View.{entries}
 use Rattle.files.specs.Requests.{needs, recordWith}
 use Rattle.entries.specs.Entries.{whereIs, appended}
-use Rattle.acts.specs.Names.{storable}
+use Rattle.entries.specs.Names.{storable}
 use Rattle.acts.specs.Answers.{ifDone, isDir, ofHead, fullLinks}
 use Rattle.acts.specs.declared.Acted.{Acted}
 use Rattle.acts.specs.declared.Acted.the-variants.{Done, NotDir, IsDir, BadName, EntryExist, TooManyLinks, NoDeviceSpace}

@@ -16,7 +16,7 @@ use Rattle.card.specs.View.{entries, entry}
 use Rattle.blocks.specs.Bytes.{filled}
 use Rattle.files.specs.Requests.{needs, recordWith}
 use Rattle.entries.specs.Entries.{whereIs, entryPut, appended, removed}
-use Rattle.acts.specs.Names.{isDots, storable}
+use Rattle.entries.specs.Names.{isDots, storable}
 use Rattle.acts.specs.Answers.{ifDone, isDir, ofHead, fullLinks}
 use Rattle.acts.specs.Unlink.{namedBy}
 use Rattle.acts.specs.declared.Acted.{Acted}

@@ -13,7 +13,7 @@ use Rattle.card.specs.View.{entries, entry}
 use Rattle.blocks.specs.Taking.{shrunk}
 use Rattle.files.specs.Requests.{recordWith}
 use Rattle.entries.specs.Entries.{whereIs, removed}
-use Rattle.acts.specs.Names.{isDots}
+use Rattle.entries.specs.Names.{isDots}
 use Rattle.acts.specs.Answers.{ifDone, isDir, ofHead}
 use Rattle.acts.specs.declared.Acted.{Acted}
 use Rattle.acts.specs.declared.Acted.the-variants.{Done, NotDir, IsDir, EntryNotFound, DirNotEmpty}

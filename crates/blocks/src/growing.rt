@@ -19,7 +19,7 @@ pub struct Took {
 }
 
 // Takes the next free block; 0 where there is none.
-fn take_next(image: &mut [u8], nb: u32, from: BlockId) -> BlockId
+pub fn take_next(image: &mut [u8], nb: u32, from: BlockId) -> BlockId
     requires { ⌜ Sizes (now image) nb × (from .0 ≤ nb) ⌝ }
     ensures { λ r. ⌜ (r .0 ≡ nextFree nb (now (image .entry)) (from .0)) × (now (image .exit) ≡ taken (now (image .entry)) (from .0) nb) ⌝ }
 {

@@ -99,7 +99,7 @@ fn judge_write(unused: u32, h: Head, off: u64, k: usize) -> Filed
 }
 
 // The record of inode n with the head h.
-fn record_with(image: &[u8], n: INodeId, h: Head) -> DiskINode
+pub fn record_with(image: &[u8], n: INodeId, h: Head) -> DiskINode
     requires { ⌜ 4096 * n .0 + 80 ≤ length (now image) ⌝ }
     ensures { λ r. ⌜ r ≡ recordWith (now (image .entry)) (n .0) h ⌝ }
 {
