@@ -1,3 +1,4 @@
 pub mod Check
 pub mod Said
 pub mod FileCalls
+pub mod DirCalls

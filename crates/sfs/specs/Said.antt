@@ -4,6 +4,8 @@ use Rattle.walk.specs.declared.Opened.{Opened}
 use Rattle.walk.specs.declared.Opened.the-variants.{Open, ScratchShort, WrongFs, Damaged, NoInode}
 use Rattle.files.specs.declared.Filed.{Filed}
 use Rattle.files.specs.declared.Filed.the-variants as F
+use Rattle.acts.specs.declared.Acted.{Acted}
+use Rattle.acts.specs.declared.Acted.the-variants as A
 use Rattle.sfs.specs.declared.said.Said.{Said}
 use Rattle.sfs.specs.declared.said.Said.the-variants as S
 
@@ -65,3 +67,16 @@ ofFiled (F.Done v) = S.Done v
 ofFiled F.NotFile = S.NotFile
 ofFiled F.InvalidParam = S.InvalidParam
 ofFiled F.NoDeviceSpace = S.NoDeviceSpace
+
+-- what a call on a directory says
+abbrev pub ofActed : Acted → Said
+ofActed (A.Done v) = S.Done v
+ofActed A.NotDir = S.NotDir
+ofActed A.IsDir = S.IsDir
+ofActed A.BadName = S.BadName
+ofActed A.EntryExist = S.EntryExist
+ofActed A.EntryNotFound = S.EntryNotFound
+ofActed A.DirNotEmpty = S.DirNotEmpty
+ofActed A.InvalidParam = S.InvalidParam
+ofActed A.TooManyLinks = S.TooManyLinks
+ofActed A.NoDeviceSpace = S.NoDeviceSpace
