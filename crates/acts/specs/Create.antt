@@ -62,10 +62,13 @@ unfoldable pub madeFile : ℕ → ℕ → DiskINode → List ℕ → FileType �
 madeFile nb p d x t img =
     appended nb p d (entryOf (freshInode nb img) x) (encoded (taken img 0 nb) (freshInode nb img) (withLinks (newInode t) 1))
 
--- a directory of two entries, on a card whose block i has been taken for it
+-- a directory of two entries, on a card whose block i has been taken for it: its record first, then its length
+abbrev pub bareDir : DiskINode
+bareDir = withLinks (newInode Dir) 2
+
 unfoldable pub emptyDir : ℕ → ℕ → ℕ → List ℕ → List ℕ
 emptyDir nb i p img =
-    entryPut nb i 1 (entryOf p dots) (entryPut nb i 0 (entryOf i dot) (resized nb i (withLinks (newInode Dir) 2) 520 img))
+    entryPut nb i 1 (entryOf p dots) (entryPut nb i 0 (entryOf i dot) (resized nb i bareDir 520 (encoded img i bareDir)))
 
 -- "a directory's creation raises the parent's links"
 unfoldable pub madeDir : ℕ → ℕ → DiskINode → List ℕ → List ℕ → List ℕ

@@ -13,6 +13,8 @@ pub mod Losses
 pub mod GivenUp
 pub mod Shortened
 pub mod Filling
+pub mod Counts
+pub mod TreeSteps
 pub mod Resized
 pub mod Only
 pub mod Requests
@@ -21,3 +23,9 @@ pub mod Steps
 pub mod Writing
 pub mod Return
 pub mod Files
+pub mod LinkBytes
+pub mod Edits
+pub mod Links
+pub mod Entry
+pub mod Append
+pub mod Remove

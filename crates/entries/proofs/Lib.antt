@@ -1,0 +1,3 @@
+pub mod Comparing
+pub mod Lookup
+pub mod Given
