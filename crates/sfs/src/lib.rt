@@ -4,6 +4,8 @@ ghost use Rattle.walk.specs.Opening.{statusOf, blocksOf, unusedOf};
 ghost use Rattle.sfs.specs.Check.{Checked};
 use walk::Opened;
 
+pub mod c_files;
+pub mod file_calls;
 pub mod said;
 
 // 01's number of an answer.

@@ -1,0 +1,101 @@
+-- The statements of read, write and resize leave one answer, one image, one buffer and one scratch: two programs that meet them agree, whether they
+-- are called in Rattle or from C. Assumes nothing.
+use Prim.Native.Nat.{ℕ}
+use mathlib.Core.Path.{_≡_, refl, sym, ap, _∙_}
+use mathlib.Core.List.{List}
+use lib.ListN.{length}
+use Rattle.layout.specs.Super.{blocks}
+use Rattle.files.specs.Requests.{resizeAnswer, resizeCard, writeAnswer, writeCard, readAnswer, readBuffer}
+use Rattle.walk.specs.declared.Opened.{Opened}
+use Rattle.walk.specs.Opening.{Opening}
+use Rattle.walk.proofs.Agree.{agree}
+use Rattle.sfs.specs.Said.{saidNo, saidValue, ifOpen, ofOpened, ofFiled}
+use Rattle.sfs.specs.FileCalls.{Read, Written, Sized, ReadC, WrittenC, SizedC}
+use Rattle.sfs.specs.declared.said.Said.{Said}
+
+-- what depends on the opening alone is the same of two openings
+by-opening : {A : Type 0} (f : Opened → A) {o p : Opened} {x y : A} → o ≡ p → x ≡ f o → y ≡ f p → x ≡ y
+by-opening f e a b = a ∙ ap f e ∙ sym b
+
+-- the answer, what the call changes, and the scratch
+pub record Same (r₁ r₂ : Said) (x₁ x₂ s₁ s₂ : List ℕ) : Type 0 where
+  pub said : r₁ ≡ r₂
+  pub changed : x₁ ≡ x₂
+  pub scratch : s₁ ≡ s₂
+
+-- as C sees it: the number and the value
+pub record SameC (a₁ a₂ v₁ v₂ : ℕ) (x₁ x₂ s₁ s₂ : List ℕ) : Type 0 where
+  pub status : a₁ ≡ a₂
+  pub value : v₁ ≡ v₂
+  pub changed : x₁ ≡ x₂
+  pub scratch : s₁ ≡ s₂
+
+module _ {img s s₁ s₂ : List ℕ} {n : ℕ} {o p : Opened} (a : Opening img s s₁ n n o) (b : Opening img s s₂ n n p) where
+  -- two calls whose answer and change depend on the opening alone
+  same : (f : Opened → Said) (g : Opened → List ℕ) {r₁ r₂ : Said} {x₁ x₂ : List ℕ}
+      → r₁ ≡ f o → r₂ ≡ f p → x₁ ≡ g o → x₂ ≡ g p → Same r₁ r₂ x₁ x₂ s₁ s₂
+  same f g d e h k = let q = agree a b in record { said = by-opening f (q .0) d e; changed = by-opening g (q .0) h k; scratch = q .1 }
+
+same-c : {r₁ r₂ : Said} {a₁ a₂ v₁ v₂ : ℕ} {x₁ x₂ s₁ s₂ : List ℕ} → Same r₁ r₂ x₁ x₂ s₁ s₂
+    → a₁ ≡ saidNo r₁ → a₂ ≡ saidNo r₂ → v₁ ≡ saidValue r₁ → v₂ ≡ saidValue r₂ → SameC a₁ a₂ v₁ v₂ x₁ x₂ s₁ s₂
+same-c q a b c d =
+    record {
+      status = a ∙ ap saidNo (q .said) ∙ sym b;
+      value = c ∙ ap saidValue (q .said) ∙ sym d;
+      changed = q .changed;
+      scratch = q .scratch;
+    }
+
+module _ {img s s₁ s₂ : List ℕ} {n : ℕ} where
+  -- ---- read: the buffer
+
+  module _ {buf x₁ x₂ : List ℕ} {off : ℕ} where
+    pub read-agrees : {r₁ r₂ : Said} → Read img s s₁ buf x₁ n off r₁ → Read img s s₂ buf x₂ n off r₂ → Same r₁ r₂ x₁ x₂ s₁ s₂
+    read-agrees a b =
+        same (a .opening) (b .opening) (λ o. ifOpen o (ofFiled (readAnswer img n off (length buf))) (ofOpened o))
+        (λ o. ifOpen o (readBuffer (blocks img) img n off buf) buf)
+        (a .said)
+        (b .said)
+        (a .buffer)
+        (b .buffer)
+
+    pub read-c-agrees : {a₁ a₂ v₁ v₂ : ℕ} → ReadC img s s₁ buf x₁ n off a₁ v₁ → ReadC img s s₂ buf x₂ n off a₂ v₂ → SameC a₁ a₂ v₁ v₂ x₁ x₂ s₁ s₂
+    read-c-agrees a b = same-c (read-agrees (a .call) (b .call)) (a .status-is) (b .status-is) (a .count-is) (b .count-is)
+
+  -- ---- write: the image
+
+  module _ {src x₁ x₂ : List ℕ} {off : ℕ} where
+    pub write-agrees : {r₁ r₂ : Said} → Written img x₁ s s₁ src n off r₁ → Written img x₂ s s₂ src n off r₂ → Same r₁ r₂ x₁ x₂ s₁ s₂
+    write-agrees a b =
+        same (a .opening) (b .opening) (λ o. ifOpen o (ofFiled (writeAnswer img n off src)) (ofOpened o))
+        (λ o. ifOpen o (writeCard (blocks img) img n off src) img)
+        (a .said)
+        (b .said)
+        (a .image)
+        (b .image)
+
+    pub write-c-agrees : {a₁ a₂ v₁ v₂ : ℕ} → WrittenC img x₁ s s₁ src n off a₁ v₁ → WrittenC img x₂ s s₂ src n off a₂ v₂ → SameC a₁ a₂ v₁ v₂ x₁ x₂ s₁ s₂
+    write-c-agrees a b = same-c (write-agrees (a .call) (b .call)) (a .status-is) (b .status-is) (a .count-is) (b .count-is)
+
+  -- ---- resize: the image
+
+  module _ {x₁ x₂ : List ℕ} {len : ℕ} where
+    pub resize-agrees : {r₁ r₂ : Said} → Sized img x₁ s s₁ n len r₁ → Sized img x₂ s s₂ n len r₂ → Same r₁ r₂ x₁ x₂ s₁ s₂
+    resize-agrees a b =
+        same (a .opening) (b .opening) (λ o. ifOpen o (ofFiled (resizeAnswer img n len)) (ofOpened o))
+        (λ o. ifOpen o (resizeCard (blocks img) img n len) img)
+        (a .said)
+        (b .said)
+        (a .image)
+        (b .image)
+
+    -- C has no value of it: 0 for both
+    pub resize-c-agrees : {a₁ a₂ : ℕ} → SizedC img x₁ s s₁ n len a₁ → SizedC img x₂ s s₂ n len a₂ → SameC a₁ a₂ 0 0 x₁ x₂ s₁ s₂
+    resize-c-agrees a b =
+        let q = resize-agrees (a .call) (b .call) in
+        record {
+          status = a .status-is ∙ ap saidNo (q .said) ∙ sym (b .status-is);
+          value = refl;
+          changed = q .changed;
+          scratch = q .scratch;
+        }

@@ -1,0 +1,45 @@
+// read, write and resize as C calls them (include/sfs.h): the answer's number, and its value behind a pointer.
+ghost use Rattle.sfs.specs.FileCalls.{ReadC, WrittenC, SizedC};
+use crate::file_calls;
+use crate::said;
+use layout::INodeId;
+
+#[no_mangle]
+pub extern "C" fn sfs_read(
+    image: &[u8],
+    scratch: &mut [u32],
+    inode: u32,
+    offset: u64,
+    buf: &mut [u8],
+    count: &mut u32,
+) -> u32
+    ensures { λ r. ⌜ ReadC (now (image .entry)) (now (scratch .entry)) (now (scratch .exit)) (now (buf .entry)) (now (buf .exit)) inode offset r (now (count .exit)) ⌝ }
+{
+    let r = file_calls::read(image, scratch, INodeId(inode), offset, buf);
+    *count = said::value_of(r);
+    said::number_of(r)
+}
+
+#[no_mangle]
+pub extern "C" fn sfs_write(
+    image: &mut [u8],
+    scratch: &mut [u32],
+    inode: u32,
+    offset: u64,
+    src: &[u8],
+    count: &mut u32,
+) -> u32
+    ensures { λ r. ⌜ WrittenC (now (image .entry)) (now (image .exit)) (now (scratch .entry)) (now (scratch .exit)) (now (src .entry)) inode offset r (now (count .exit)) ⌝ }
+{
+    let r = file_calls::write(image, scratch, INodeId(inode), offset, src);
+    *count = said::value_of(r);
+    said::number_of(r)
+}
+
+#[no_mangle]
+pub extern "C" fn sfs_resize(image: &mut [u8], scratch: &mut [u32], inode: u32, len: u64) -> u32
+    ensures { λ r. ⌜ SizedC (now (image .entry)) (now (image .exit)) (now (scratch .entry)) (now (scratch .exit)) inode len r ⌝ }
+{
+    let r = file_calls::resize(image, scratch, INodeId(inode), len);
+    said::number_of(r)
+}
