@@ -23,6 +23,7 @@ pub mod Steps
 pub mod Writing
 pub mod Return
 pub mod Files
+pub mod Calls
 pub mod LinkBytes
 pub mod Edits
 pub mod Links
