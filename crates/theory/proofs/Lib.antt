@@ -14,7 +14,10 @@ pub mod GivenUp
 pub mod Shortened
 pub mod Filling
 pub mod Counts
-pub mod TreeSteps
+pub mod TreeStep
+pub mod TreeAdd
+pub mod TreeDrop
+pub mod TreeMove
 pub mod Resized
 pub mod Only
 pub mod Requests
@@ -30,3 +33,5 @@ pub mod Links
 pub mod Entry
 pub mod Append
 pub mod Remove
+pub mod FreshBytes
+pub mod FreshCard
