@@ -35,3 +35,6 @@ pub mod Append
 pub mod Remove
 pub mod FreshBytes
 pub mod FreshCard
+pub mod EntryCounts
+pub mod DropCard
+pub mod UnlinkCard
