@@ -34,7 +34,7 @@ use Rattle.theory.proofs.Edits.{Edited, data-edited}
 
 -- ---- the entry of inode m under a name
 
-bytes-zeros : (n : ℕ) → Bytes (replicate n 0)
+pub bytes-zeros : (n : ℕ) → Bytes (replicate n 0)
 bytes-zeros n = record { below = λ k. go k (decLt k n) }
   where
     go : (k : ℕ) → Dec (k < n) → byte (replicate n 0) k < 256

@@ -38,3 +38,8 @@ pub mod FreshCard
 pub mod EntryCounts
 pub mod DropCard
 pub mod UnlinkCard
+pub mod Climb
+pub mod MoveDir
+pub mod MoveCarry
+pub mod MoveJudged
+pub mod MoveCard

@@ -1,0 +1,5 @@
+pub mod Ready
+pub mod Heads
+pub mod Refused
+pub mod CreateLaws
+pub mod LinkLaws
