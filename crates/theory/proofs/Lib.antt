@@ -36,6 +36,14 @@ pub mod Remove
 pub mod FreshBytes
 pub mod FreshCard
 pub mod EntryCounts
+pub mod NewInode
+pub mod NameTests
+pub mod CreateTests
+pub mod Creating
+pub mod CreateDir
+pub mod CreateCard
+pub mod LinkTests
+pub mod LinkCard
 pub mod DropCard
 pub mod UnlinkCard
 pub mod Climb
