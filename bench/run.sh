@@ -1,8 +1,8 @@
 #!/usr/bin/env bash
-# What the library's check costs beside a plain one in Rust: a table of case, library, plain, ratio.
+# What the library's calls cost beside plain ones in Rust: tables of cases.
 #
 #   run.sh               for x86-64, with the archive that `rt staticlib sfs` makes (SFS_LIB: another one)
-#   run.sh --stand-in    with the plain checker itself in the archive's place: the ratios are then near 1
+#   run.sh --stand-in    with the plain ones themselves in the archive's place: the ratios are then near 1
 #   run.sh --host        the stand-in, by the rustc of PATH, for this machine
 #   run.sh --time        times, and no count of instructions
 #
@@ -15,87 +15,75 @@ root=$(cd "$here/.." && pwd)
 # shellcheck source=../tests/tools.sh
 . "$root/tests/tools.sh"
 
-place=x86_64
-stand_in=
-how=count
-for option in "$@"; do
-    case $option in
-    --stand-in) stand_in=yes ;;
-    --host)
-        place=host
-        stand_in=yes
-        ;;
-    --time) how="time" ;;
-    *)
-        echo "usage: run.sh [--stand-in] [--host] [--time]" >&2
-        exit 2
-        ;;
-    esac
-done
-if [ $place = host ]; then
-    RUSTC=${RUSTC:-rustc}
-    RUN=
-else
-    need_outside_tools
-fi
-read -r -a rustc <<<"$RUSTC"
-read -r -a run <<<"$RUN"
+read_options "--stand-in --host --time" "$@"
+use_tools
 out=$root/target/bench/$place
 mkdir -p "$out/lib"
-
-# compile NAME FILE FLAG..
-compile() {
-    local name=$1 file=$2
-    shift 2
-    "${rustc[@]}" --edition 2021 --crate-name "$name" -C opt-level=3 -L "$out/lib" "$@" "$file"
-}
-if [ -n "$stand_in" ]; then
-    compile standin "$root/tests/check/standin.rs" --crate-type lib --emit obj -o "$out/lib/standin.o"
-    rm -f "$out/lib/libsfs.a"
-    ar rcs "$out/lib/libsfs.a" "$out/lib/standin.o"
-else
-    archive=${SFS_LIB:-$root/target/staticlib/libsfs.a}
-    if [ ! -f "$archive" ]; then
-        echo "bench: there is no archive $archive; \`rt staticlib sfs\` makes it" >&2
-        exit 1
-    fi
-    cp "$archive" "$out/lib/libsfs.a"
-fi
+# Measured as it is used: sums are not watched.
+flags=()
+take_archive "$root/tests/files/standin.rs"
 compile kit "$root/tests/check/kit.rs" --crate-type rlib --out-dir "$out/lib"
+
 compile bench_check "$here/check/main.rs" --extern kit -o "$out/bench_check"
+compile bench_files "$here/files/main.rs" --extern kit -o "$out/bench_files"
 
-names=("full of 100 KiB files" "16,000 small files" "100,000 hard links")
-# row NAME LIBRARY PLAIN
-row() {
-    awk -v n="$1" -v l="$2" -v p="$3" 'BEGIN { printf "%-24s %14d %14d %7.2f\n", n, l, p, l / p }'
-}
-head() {
-    echo "bench: $1"
-    printf '%-24s %14s %14s %7s\n' instructions library plain ratio
-}
-
-# The emulator's plugin is a library of this machine, so it is built without the target's flags.
-if [ $how = count ] && [ -n "$RUN" ] &&
+# Whether the emulator counts. Its plugin is a library of this machine, so it is built without the target's flags.
+# Without words the program says how it is used and ends with 2: then it was run.
+counting() {
+    local status=0
     "${rustc[0]}" --edition 2021 --crate-name insn --crate-type cdylib -C opt-level=2 -o "$out/libinsn.so" \
-        "$here/insn.rs" 2>"$out/insn.log" &&
-    "${run[@]}" -plugin "file=$out/libinsn.so" "$out/bench_check" marks 2>"$out/marks"; then
-    head "instructions, counted by qemu (bench/insn.rs)"
-    for name in "${names[@]}"; do
-        # Four marks a case: before and after the library's check, before and after the plain one.
-        mapfile -t counts < <(awk -v n="case $name" '$0 == n { on = 1; next } /^case/ { on = 0 } on && /^mark/ { print $2 }' "$out/marks")
-        row "$name" $((counts[1] - counts[0])) $((counts[3] - counts[2]))
-    done
-elif [ $how = count ] && [ -z "$RUN" ] && command -v valgrind >/dev/null; then
-    # collected CASE WHO FUNCTION
-    collected() {
-        valgrind --tool=callgrind --callgrind-out-file=/dev/null --toggle-collect="$3" "$out/bench_check" one "$1" "$2" \
-            2>&1 | awk '/Collected/ { print $NF }'
-    }
-    head "instructions, counted by valgrind"
-    for case in 0 1 2; do
-        row "${names[$case]}" "$(collected $case library sfs_check)" "$(collected $case plain plain_check)"
-    done
-else
-    echo "bench: times in one run${RUN:+, under the emulator: only the ratio means anything}"
-    "${run[@]}" "$out/bench_check" time
+        "$here/insn.rs" 2>"$out/insn.log" || return 1
+    "${run[@]}" -plugin "file=$out/libinsn.so" "$out/bench_check" 2>>"$out/insn.log" || status=$?
+    [ $status -eq 2 ]
+}
+
+how="time"
+unit="nanoseconds, the least of several${RUN:+, under the emulator: only ratios mean anything}"
+if asked --time; then
+    :
+elif [ -n "$RUN" ] && counting; then
+    how=marks
+    unit="instructions, counted by qemu (bench/insn.rs)"
+elif [ -z "$RUN" ] && command -v valgrind >/dev/null; then
+    how=valgrind
+    unit="instructions, counted by valgrind"
 fi
+
+# measure PROGRAM: lines CASE|PART|NUMBER
+measure() {
+    local name part
+    case $how in
+    marks)
+        "${run[@]}" -plugin "file=$out/libinsn.so" "$1" marks 2>"$out/marks"
+        # Two marks a part: before it and after.
+        awk '/^part / { name = substr($0, 6); first = 1 }
+             /^mark / { if (first) { start = $2; first = 0 } else printf "%s|%d\n", name, $2 - start }' "$out/marks"
+        ;;
+    valgrind)
+        "$1" list | while IFS='|' read -r name part; do
+            printf '%s|%s|' "$name" "$part"
+            valgrind --tool=callgrind --callgrind-out-file=/dev/null --toggle-collect=measured "$1" one "$name" "$part" \
+                2>&1 | awk '/Collected/ { print $NF }'
+        done
+        ;;
+    time) "${run[@]}" "$1" time ;;
+    esac
+}
+
+# The lines of a case become one row, in the order of the cases.
+rows='{ if (!($1 in seen)) { seen[$1] = 1; order[++n] = $1 } value[$1, $2] = $3 }'
+
+echo "bench: $unit"
+
+printf '\n%-34s %12s %12s %7s\n' "the check" library plain ratio
+measure "$out/bench_check" | awk -F'|' "$rows"' END { for (i = 1; i <= n; i++) { c = order[i]
+    printf "%-34s %12d %12d %7.2f\n", c, value[c, "library"], value[c, "plain"], value[c, "library"] / value[c, "plain"] } }'
+
+# "act" is the library's call less its check on the same card, measured apart; "plain" is the plain act without a check.
+# "whole" is the library's call by the plain act and the plain check together.
+printf '\n%-34s %12s %12s %12s %12s %7s %12s %7s %7s\n' "files, 16 MiB" call check act plain ratio copy ratio whole
+measure "$out/bench_files" | awk -F'|' "$rows"' END { for (i = 1; i <= n; i++) { c = order[i]
+    call = value[c, "call"]; act = call - value[c, "check"]; plain = value[c, "plain"]; copy = value[c, "copy"]
+    printf "%-34s %12d %12d %12d %12d %7.2f", c, call, value[c, "check"], act, plain, act / plain
+    if (copy) printf " %12d %7.2f", copy, act / copy; else printf " %12s %7s", "-", "-"
+    printf " %7.2f\n", call / (plain + value[c, "opening"]) } }'

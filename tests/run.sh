@@ -17,8 +17,9 @@ run() {
 if need_outside_tools; then
     run "$here/oracle/run.sh"
     SFS_CHECK="$here/program.sh sfs_check" run "$here/check/run.sh"
+    run "$here/files/run.sh"
 else
-    echo "outside: left out: oracle (the unchanged Rust, for x86-64), check (libsfs.a beside 01's rules)"
+    echo "outside: left out: oracle (the unchanged Rust, for x86-64), check (libsfs.a beside 01's rules), files (beside the Rust)"
     [ "${ALLOW_MISSING:-no}" = yes ] || failed=1
 fi
 # The Rust's answers do not hang on the compiler: once more by the one of PATH, if it is another one.

@@ -1,10 +1,12 @@
-# shellcheck shell=bash disable=SC2034
+# shellcheck shell=bash disable=SC2034,SC2154
 # Sourced by the scripts that build programs for x86-64 outside of the proved code.
 #
 # need_outside_tools finds, and where it can installs, what that takes, and sets
 #   RUSTC  the compiler with its flags, words parted by spaces
 #   RUN    what runs a program it built: nothing on x86-64, the emulator with its flags elsewhere
 # Elsewhere the programs are static: the emulator has no libraries of x86-64 to load.
+#
+# What the scripts share besides: read_options, use_tools, compile, take_archive, step. They use `root` and `out`.
 
 outside_tools_missing() {
     local file missing=()
@@ -52,4 +54,83 @@ need_outside_tools() {
     RUSTC="$RUSTC -C relocation-model=static -C linker=x86_64-linux-gnu-gcc"
     # Without "erms" the C library copies by vectors: under the emulator some 15 times as fast as by "rep movsb".
     RUN="qemu-x86_64 -cpu max,-erms"
+}
+
+# read_options "--WORD .." "$@": the options, which must be among the words. `asked --WORD` tells of one; `place` is
+# host after --host, else x86_64.
+read_options() {
+    local words=$1 word
+    shift
+    given=" "
+    for word in "$@"; do
+        if [[ " $words " != *" $word "* ]]; then
+            echo "usage: ${0##*/} [${words// /] [}]" >&2
+            exit 2
+        fi
+        given+="$word "
+    done
+    place=x86_64
+    if asked --host; then place=host; fi
+}
+
+asked() {
+    [[ $given == *" $1 "* ]]
+}
+
+# The tools for `place`, also as the arrays rustc and run.
+use_tools() {
+    if [ "$place" = host ]; then
+        RUSTC=${RUSTC:-rustc}
+        RUN=
+    else
+        need_outside_tools || return 1
+    fi
+    export RUSTC
+    read -r -a rustc <<<"$RUSTC"
+    read -r -a run <<<"$RUN"
+}
+
+# Further flags of compile. With these, sums that overflow are faults of the tests themselves.
+flags=(-C overflow-checks=on)
+
+# compile NAME FILE FLAG..: a program, a library or an object, with the libraries of $out/lib at hand
+compile() {
+    local name=$1 file=$2
+    shift 2
+    "${rustc[@]}" --edition 2021 --crate-name "$name" -C opt-level=3 "${flags[@]}" -L "$out/lib" "$@" "$file"
+}
+
+# make_standin FILE: its object as $out/lib/libsfs.a
+make_standin() {
+    compile standin "$1" --crate-type lib --emit obj -o "$out/lib/standin.o"
+    rm -f "$out/lib/libsfs.a"
+    ar rcs "$out/lib/libsfs.a" "$out/lib/standin.o"
+}
+
+# take_archive STANDIN: $out/lib/libsfs.a is the archive to test, or with --stand-in and --host the stand-in
+take_archive() {
+    local archive=${SFS_LIB:-$root/target/staticlib/libsfs.a}
+    if asked --stand-in || asked --host; then
+        make_standin "$1"
+        return
+    fi
+    if [ ! -f "$archive" ]; then
+        echo "${here##*/}: there is no archive $archive; \`rt staticlib sfs\` makes it" >&2
+        return 1
+    fi
+    cp "$archive" "$out/lib/libsfs.a"
+}
+
+failed=0
+# step NAME COMMAND..: its last line, or everything where it fails; then `failed` is 1
+step() {
+    local log=$out/$1.log
+    shift
+    if "$@" >"$log" 2>&1; then
+        tail -n 1 "$log"
+    else
+        cat "$log"
+        echo "${here##*/}: FAILED: $*"
+        failed=1
+    fi
 }

@@ -1,21 +1,18 @@
-//! bench_check: the library's check of large cards beside a plain one in Rust.
-//!
-//!     bench_check time              both in turn, the least of several times each, and the ratio
-//!     bench_check marks             each once, with a call of getppid before and after: see bench/insn.rs
-//!     bench_check one CASE WHO      one of the two once, for counting by the name of its function
-//!
-//! Both must answer the same, and as the card's maker expects.
+//! bench_check: the library's check of large cards beside a plain one in Rust. Both must answer the same, and as the
+//! card's maker expects. measure.rs says what is printed.
 
 #[path = "../../tests/check/library.rs"]
 mod library;
+#[path = "../measure.rs"]
+mod measure;
+#[allow(dead_code)]
 mod plain;
 
 use kit::plan::{Card, Fill, Kind, Plan, ROOT};
 use kit::rng::Rng;
-use std::time::{Duration, Instant};
+use measure::Measure;
 
 const BLOCKS: usize = 32768;
-const TURNS: usize = 5;
 
 const CASES: [(&str, fn(&mut Plan) -> Option<()>); 3] = [
     ("full of 100 KiB files", full),
@@ -29,91 +26,36 @@ fn by_library(image: &[u8], scratch: &mut [u32]) -> (u32, u32, u32) {
     library::check(image, scratch)
 }
 
-/// Under a name of its own, so that a profiler finds it.
-#[no_mangle]
-#[inline(never)]
-pub extern "C" fn plain_check(image: &&[u8], scratch: &mut &mut [u32], answer: &mut (u32, u32, u32)) {
+fn by_plain(image: &[u8], scratch: &mut [u32]) -> (u32, u32, u32) {
     let said = plain::check(image, scratch);
-    *answer = (said.status, said.blocks, said.unused);
-}
-
-fn by_plain(mut image: &[u8], mut scratch: &mut [u32]) -> (u32, u32, u32) {
-    let mut answer = (0, 0, 0);
-    plain_check(&mut image, &mut scratch, &mut answer);
-    answer
+    (said.status, said.blocks, said.unused)
 }
 
 fn main() {
-    let words: Vec<String> = std::env::args().skip(1).collect();
-    let words: Vec<&str> = words.iter().map(String::as_str).collect();
-    match words[..] {
-        ["time"] => time(),
-        ["marks"] => marks(),
-        ["one", case, who] => {
-            let case: usize = case.parse().expect("a case's number");
-            let card = card(case);
-            judge(&card, if who == "library" { by_library } else { by_plain }, &mut scratch(), false);
-        }
-        _ => {
-            eprintln!("usage: bench_check time | marks | one CASE library|plain");
-            std::process::exit(2);
+    let mut measure = Measure::from_words();
+    for (name, plan) in CASES {
+        if measure.wants(name) {
+            let card = card(plan);
+            for _ in 0..measure.turns() {
+                judge(&mut measure, name, "library", &card, by_library);
+                judge(&mut measure, name, "plain", &card, by_plain);
+            }
         }
     }
+    measure.end();
 }
 
-fn time() {
-    println!("{:<24} {:>14} {:>14} {:>7}", "ms, least of several", "library", "plain", "ratio");
-    for (case, (name, _)) in CASES.iter().enumerate() {
-        let card = card(case);
-        let mut scratch = scratch();
-        let (mut library, mut plain) = (Duration::MAX, Duration::MAX);
-        for _ in 0..TURNS {
-            library = library.min(judge(&card, by_library, &mut scratch, false));
-            plain = plain.min(judge(&card, by_plain, &mut scratch, false));
-        }
-        let (library, plain) = (1000.0 * library.as_secs_f64(), 1000.0 * plain.as_secs_f64());
-        println!("{:<24} {:>14.2} {:>14.2} {:>7.2}", name, library, plain, library / plain);
-    }
-}
-
-fn marks() {
-    for (case, (name, _)) in CASES.iter().enumerate() {
-        let card = card(case);
-        let mut scratch = scratch();
-        eprintln!("case {}", name);
-        judge(&card, by_library, &mut scratch, true);
-        judge(&card, by_plain, &mut scratch, true);
-    }
-}
-
-fn mark() {
-    let _ = std::os::unix::process::parent_id();
-}
-
-/// The time of one check.
-fn judge(card: &Card, check: Check, scratch: &mut [u32], marked: bool) -> Duration {
-    scratch.fill(0x5a5a_5a5a);
-    let started = Instant::now();
-    if marked {
-        mark();
-    }
-    let answer = check(&card.image, scratch);
-    if marked {
-        mark();
-    }
-    let time = started.elapsed();
+fn judge(measure: &mut Measure, case: &str, part: &str, card: &Card, check: Check) {
+    let mut scratch = vec![0x5a5a_5a5a; 4 * BLOCKS];
+    let mut answer = (0, 0, 0);
+    measure.part(case, part, &mut || answer = check(&card.image, &mut scratch));
     assert_eq!(answer, (0, card.blocks, card.free.len() as u32), "the answer");
     assert!(scratch.iter().all(|&word| word == 0), "scratch is not cleared");
-    time
 }
 
-fn scratch() -> Vec<u32> {
-    vec![0; 4 * BLOCKS]
-}
-
-fn card(case: usize) -> Card {
+fn card(make: fn(&mut Plan) -> Option<()>) -> Card {
     let mut plan = Plan::new(BLOCKS);
-    CASES[case].1(&mut plan).expect("the card has room for it");
+    make(&mut plan).expect("the card has room for it");
     plan.card(&mut Rng::new(1), Fill::Zeros, false)
 }
 

@@ -17,25 +17,43 @@ pub struct Answer {
 struct Damaged;
 
 pub fn check(image: &[u8], scratch: &mut [u32]) -> Answer {
-    let refused = |status| Answer { status, blocks: 0, unused: 0 };
+    match whole(image, scratch) {
+        Ok(_) => Answer { status: 0, blocks: word(image, 4), unused: word(image, 8) },
+        Err(status) => Answer { status, blocks: 0, unused: 0 },
+    }
+}
+
+/// What a call tests first: the card, then that a number is one of its inodes.
+pub fn open(image: &[u8], scratch: &mut [u32], inode: u32) -> Result<(), u32> {
+    let named = whole(image, scratch)?;
+    if inode == ROOT || named.get(inode as usize).map_or(false, |&entries| entries > 0) {
+        Ok(())
+    } else {
+        Err(4)
+    }
+}
+
+/// For each block how many entries name it as an inode, or the number of the refusal.
+fn whole(image: &[u8], scratch: &mut [u32]) -> Result<Vec<u32>, u32> {
     if image.len() < BLOCK {
-        return refused(3);
+        return Err(3);
     }
     if word(image, 0) != MAGIC {
-        return refused(2);
+        return Err(2);
     }
     let blocks = word(image, 4);
     if !(16..=32_768).contains(&blocks) || word(image, 44) != 1 || image.len() < blocks as usize * BLOCK {
-        return refused(3);
+        return Err(3);
     }
     let words = 4 * blocks as usize;
     if scratch.len() < words {
-        return refused(1);
+        return Err(1);
     }
     scratch[..words].fill(0);
-    match Walk::new(image, blocks as usize).run() {
-        Ok(()) => Answer { status: 0, blocks, unused: word(image, 8) },
-        Err(Damaged) => refused(3),
+    let mut walk = Walk::new(image, blocks as usize);
+    match walk.run() {
+        Ok(()) => Ok(walk.named),
+        Err(Damaged) => Err(3),
     }
 }
 
@@ -77,7 +95,7 @@ impl<'a> Walk<'a> {
         }
     }
 
-    fn run(mut self) -> Result<(), Damaged> {
+    fn run(&mut self) -> Result<(), Damaged> {
         self.take(0)?;
         self.take(2)?;
         self.queue.push(ROOT);

@@ -1,52 +1,42 @@
 #!/usr/bin/env bash
-# Do these tests notice a fault? Each line below is one in the stand-in (bench/check/plain.rs): the text on the left
-# of ==> for the one on the right, ";;" between several. check_fuzz must find every one; where it does not, that is printed.
+# Do these tests notice a fault? Each line below is one in the stand-in (bench/check/plain.rs), as tests/faults.sh says.
+# check_fuzz must find every one; where it does not, that is printed.
 # By the rustc of PATH, for this machine; some three minutes. CHECK_SECONDS: time for one fault. An argument: only
 # the faults that hold this text.
 set -euo pipefail
 here=$(cd "$(dirname "${BASH_SOURCE[0]}")" && pwd)
 root=$(cd "$here/../.." && pwd)
+# shellcheck source=../tools.sh
+. "$here/../tools.sh"
+# shellcheck source=../faults.sh
+. "$here/../faults.sh"
+read_options "--host" --host
+use_tools
 out=$root/target/check/faults
 rm -rf "$out"
 mkdir -p "$out/tests/check" "$out/bench/check" "$out/lib"
 cp "$here"/*.rs "$out/tests/check/"
-read -r -a rustc <<<"${RUSTC:-rustc}"
-flags=(--edition 2021 -C opt-level=2 -L "$out/lib")
 plain=$(cat "$root/bench/check/plain.rs")
 
-"${rustc[@]}" "${flags[@]}" --crate-name kit --crate-type rlib --out-dir "$out/lib" "$here/kit.rs"
-found=0
-missed=0
+# A fault leaves some things unused.
+flags=(--cap-lints allow)
+compile kit "$here/kit.rs" --crate-type rlib --out-dir "$out/lib"
+fuzz=("$out/check_fuzz" --seconds "${CHECK_SECONDS:-20}" --cases 60000 --save "$out")
+
+# put TEXT: the tests, with this as the stand-in
+put() {
+    printf '%s\n' "$1" >"$out/bench/check/plain.rs"
+    make_standin "$out/tests/check/standin.rs"
+    compile check_fuzz "$here/main.rs" --extern kit -o "$out/check_fuzz"
+}
+
+put "$plain"
+sound "${fuzz[@]}"
 while IFS= read -r line; do
     case $line in *"${1:-}"*) ;; *) continue ;; esac
-    wrong=$plain
-    rest="${line//\\n/$'\n'} ;; "
-    while [ -n "$rest" ]; do
-        edit=${rest%% ;; *}
-        rest=${rest#* ;; }
-        old=${edit%% ==> *}
-        before=$wrong
-        wrong=${wrong/"$old"/"${edit##* ==> }"}
-        if [ "$wrong" = "$before" ]; then
-            echo "faults: not in plain.rs: $old"
-            exit 1
-        fi
-    done
-    printf '%s\n' "$wrong" >"$out/bench/check/plain.rs"
-    # A fault leaves some things unused.
-    "${rustc[@]}" "${flags[@]}" --cap-lints allow --crate-name standin --crate-type lib --emit obj \
-        -o "$out/lib/standin.o" "$out/tests/check/standin.rs"
-    rm -f "$out/lib/libsfs.a"
-    ar rcs "$out/lib/libsfs.a" "$out/lib/standin.o"
-    "${rustc[@]}" "${flags[@]}" --crate-name check_fuzz --extern kit -o "$out/check_fuzz" "$out/tests/check/main.rs"
-    if bash -c '"$@"; exit $?' - "$out/check_fuzz" --seconds "${CHECK_SECONDS:-20}" --cases 60000 --save "$out" >"$out/log" 2>&1; then
-        echo "faults: MISSED: $line"
-        missed=$((missed + 1))
-    else
-        found=$((found + 1))
-        at=$(grep -o 'case [0-9]*' "$out/log" | head -n 1) || true
-        echo "faults: found (${at:-it ended the process}): $line"
-    fi
+    edited "$plain" "$line"
+    put "$wrong"
+    judge "$line" "${fuzz[@]}"
 done <<'END'
 if image.len() < BLOCK { ==> if image.len() < 48 {
 word(image, 0) != MAGIC ==> word(image, 0) | 1 != MAGIC
@@ -90,5 +80,4 @@ self.take(head.indirect)?; ==> if self.take(head.indirect).is_err() && head.indi
 self.take(second)?; ==> if self.take(second).is_err() && second as usize >= self.blocks { return Err(Damaged); }
 self.take(head.double)?; ==> if self.take(head.double).is_err() && head.double as usize >= self.blocks { return Err(Damaged); }
 END
-echo "faults: $found found, $missed missed"
-[ $missed -eq 0 ]
+all_found

@@ -1,6 +1,7 @@
-//! What the programs beside this file share: cards made from a seed, and the rules of document 01.
+//! What the outside tests share: cards made from a seed, the rules of document 01, and memory to lend.
 
 pub mod cards;
 pub mod plan;
 pub mod rng;
+pub mod room;
 pub mod rules;

@@ -15,7 +15,7 @@ mod mutate_entries;
 
 use kit::rng::Rng;
 use kit::rules::Answer;
-use kit::{cards, plan, rules};
+use kit::{cards, plan, room, rules};
 use lent::{Rooms, Said};
 use std::collections::BTreeMap;
 use std::time::{Duration, Instant};
@@ -66,7 +66,7 @@ fn main() {
 type Table = BTreeMap<(u32, &'static str), u64>;
 
 fn fuzz(options: &Options) -> bool {
-    lent::name_case_of_touch();
+    room::name_case_of_touch();
     let started = Instant::now();
     let mut rooms = Rooms::new((MOST + 4) * plan::BLOCK, 4 * 32768 + 256);
     let mut base = None;
@@ -86,7 +86,7 @@ fn fuzz(options: &Options) -> bool {
             base = Some((group, cards::from_seed(seed, MOST, false)));
         }
         let card = &base.as_ref().expect("made above").1;
-        lent::CASE.store(case, std::sync::atomic::Ordering::Relaxed);
+        room::CASE.store(case, std::sync::atomic::Ordering::Relaxed);
         match one_case(card, options.seed, case, &mut rooms) {
             Ok(answer) => *table.entry((answer.status, answer.why)).or_default() += 1,
             Err(difference) => {

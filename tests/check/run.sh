@@ -15,53 +15,11 @@ root=$(cd "$here/../.." && pwd)
 # shellcheck source=../tools.sh
 . "$here/../tools.sh"
 
-place=x86_64
-stand_in=
-for option in "$@"; do
-    case $option in
-    --stand-in) stand_in=yes ;;
-    --host)
-        place=host
-        stand_in=yes
-        ;;
-    *)
-        echo "usage: run.sh [--stand-in] [--host]" >&2
-        exit 2
-        ;;
-    esac
-done
-
-if [ $place = host ]; then
-    RUSTC=${RUSTC:-rustc}
-    RUN=
-else
-    need_outside_tools
-fi
-export RUSTC
-read -r -a rustc <<<"$RUSTC"
-read -r -a run <<<"$RUN"
+read_options "--stand-in --host" "$@"
+use_tools
 out=$root/target/check/$place
 mkdir -p "$out/lib" "$out/examples"
-
-# compile NAME FILE FLAG..: sums that overflow are faults of the tests themselves
-compile() {
-    local name=$1 file=$2
-    shift 2
-    "${rustc[@]}" --edition 2021 --crate-name "$name" -C opt-level=3 -C overflow-checks=on -L "$out/lib" "$@" "$file"
-}
-
-if [ -n "$stand_in" ]; then
-    compile standin "$here/standin.rs" --crate-type lib --emit obj -o "$out/lib/standin.o"
-    rm -f "$out/lib/libsfs.a"
-    ar rcs "$out/lib/libsfs.a" "$out/lib/standin.o"
-else
-    archive=${SFS_LIB:-$root/target/staticlib/libsfs.a}
-    if [ ! -f "$archive" ]; then
-        echo "check: there is no archive $archive; \`rt staticlib sfs\` makes it" >&2
-        exit 1
-    fi
-    cp "$archive" "$out/lib/libsfs.a"
-fi
+take_archive "$here/standin.rs"
 
 compile kit "$here/kit.rs" --crate-type rlib --out-dir "$out/lib"
 compile check_fuzz "$here/main.rs" --extern kit -o "$out/check_fuzz"
@@ -70,20 +28,6 @@ compile check_examples "$here/examples.rs" --extern kit -o "$out/check_examples"
 "$here/../oracle/build.sh" "$root/target/oracle/$place" release
 compile check_oracle "$here/oracle.rs" --extern kit -L "$root/target/oracle/$place/release" --extern oracle \
     -o "$out/check_oracle"
-
-failed=0
-# step NAME COMMAND..: its last line, or everything where it fails
-step() {
-    local log=$out/$1.log
-    shift
-    if "$@" >"$log" 2>&1; then
-        tail -n 1 "$log"
-    else
-        cat "$log"
-        echo "check: FAILED: $*"
-        failed=1
-    fi
-}
 
 step oracle "${run[@]}" "$out/check_oracle" 60
 step fuzz "${run[@]}" "$out/check_fuzz" --seed "${CHECK_SEED:-1}" --cases "${CHECK_CASES:-30000}" \

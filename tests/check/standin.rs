@@ -3,7 +3,7 @@
 //! linked into.
 
 #[path = "../../bench/check/plain.rs"]
-mod plain;
+pub mod plain;
 
 /// # Safety
 /// As sfs.h says: each pointer has the memory that it is given for.

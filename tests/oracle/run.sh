@@ -16,28 +16,9 @@ root=$(cd "$here/../.." && pwd)
 # shellcheck source=../tools.sh
 . "$here/../tools.sh"
 
-record=
-place=x86_64
-for option in "$@"; do
-    case $option in
-    --record) record=yes ;;
-    --host) place=host ;;
-    *)
-        echo "usage: run.sh [--host] [--record]" >&2
-        exit 2
-        ;;
-    esac
-done
-
-if [ $place = host ]; then
-    RUSTC=${RUSTC:-rustc}
-    RUN=
-else
-    need_outside_tools
-fi
+read_options "--host --record" "$@"
+use_tools
 out=$root/target/oracle/$place
-export RUSTC
-read -r -a run <<<"$RUN"
 
 for profile in debug release; do
     "$here/build.sh" "$out" $profile
@@ -70,12 +51,12 @@ for script in "$here"/examples/*.txt; do
             result="FAILED in $profile with $status: see $answers"
             break
         fi
-        if [ -z "$record" ] && ! diff -u "$(recorded "$name" $profile)" "$answers"; then
+        if ! asked --record && ! diff -u "$(recorded "$name" $profile)" "$answers"; then
             result="DIFFERS from the recorded answers in $profile"
             break
         fi
     done
-    if [ -n "$record" ] && [ "$result" = agrees ]; then
+    if asked --record && [ "$result" = agrees ]; then
         rm -f "$here/examples/$name".{,debug.,release.}expected
         if cmp -s "$out/debug/$name.answers" "$out/release/$name.answers"; then
             cp "$out/debug/$name.answers" "$here/examples/$name.expected"

@@ -1,0 +1,62 @@
+# shellcheck shell=bash disable=SC2034,SC2154
+# Sourced by the scripts that put faults into a stand-in, one at a time, and see whether the tests notice them. They
+# use `out`. A fault is a line: the text on the left of ==> for the one on the right, ";;" between several, \n for the
+# end of a line.
+
+found=0
+missed=0
+
+# edited TEXT LINE: `wrong` is the text with the fault. A fault whose text is not there ends the script.
+edited() {
+    local rest="${2//\\n/$'\n'} ;; " edit old before
+    wrong=$1
+    while [ -n "$rest" ]; do
+        edit=${rest%% ;; *}
+        rest=${rest#* ;; }
+        old=${edit%% ==> *}
+        before=$wrong
+        wrong=${wrong/"$old"/"${edit##* ==> }"}
+        if [ "$wrong" = "$before" ]; then
+            echo "faults: not in the stand-in: $old"
+            exit 1
+        fi
+    done
+}
+
+# tried COMMAND..: `status` is how it ended. The inner shell keeps the notice of an abort out of what is printed here.
+tried() {
+    status=0
+    bash -c '"$@"; exit $?' - "$@" >"$out/log" 2>&1 || status=$?
+}
+
+# sound COMMAND..: without a fault the command must succeed, or what it says of faults means nothing
+sound() {
+    tried "$@"
+    if [ $status -ne 0 ]; then
+        cat "$out/log"
+        echo "faults: the tests fail without any fault"
+        exit 1
+    fi
+}
+
+# judge LINE COMMAND..: with the fault, the command must fail: by 1 where it tells of a difference, or by a signal where
+# the fault ends the process. Another status is a fault of the tests.
+judge() {
+    local line=$1
+    shift
+    tried "$@"
+    if [ $status -eq 1 ] || [ $status -ge 128 ]; then
+        found=$((found + 1))
+        echo "faults: found: $line"
+        grep -m 1 'case [0-9]' "$out/log" | cut -c 1-150 || echo "the process was ended"
+    else
+        missed=$((missed + 1))
+        echo "faults: MISSED with status $status: $line"
+    fi
+}
+
+# The count; fails where a fault was missed.
+all_found() {
+    echo "faults: $found found, $missed missed"
+    [ $missed -eq 0 ]
+}
