@@ -3,3 +3,8 @@ pub mod Heads
 pub mod Refused
 pub mod CreateLaws
 pub mod LinkLaws
+pub mod Dirs
+pub mod FormatLaws
+pub mod UnlinkLaws
+pub mod Climbing
+pub mod MoveLaws

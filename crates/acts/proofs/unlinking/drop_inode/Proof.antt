@@ -1,0 +1,25 @@
+-- `acts::unlinking::drop_inode` meets its contract. All it owns, then its own block. Assumes nothing.
+use Rattle.acts.specs.Unlink.{dropped}
+use borrow.Author.Needs.{needs}
+use Rattle.acts.proofs.unlinking.drop_inode.Statement.{statement}
+use Rattle.acts.proofs.unlinking.drop_inode.Tie as tie
+
+cast-shrink : tie.Need-cast-shrink
+cast-shrink c = search needs
+
+shrink-requires : tie.Need-shrink-requires
+shrink-requires c κs = search needs
+
+free-block-requires : tie.Need-free-block-requires
+free-block-requires c κs = search needs
+
+same-length : tie.Need-same-length
+same-length c = search needs
+
+returns : tie.Need-returns
+unfolding dropped
+returns c = rw (c .before .before .free-block .ensures, c .before .before .before .before .before .before .shrink .ensures)
+
+pub drop-inode-spec : {M : Type 1} → statement M
+drop-inode-spec =
+    tie.close (tie.spec cast-shrink shrink-requires free-block-requires same-length returns)
