@@ -26,7 +26,7 @@ copy-requires c κs = search needs
 -- src/entry.rt:33:1
 returns : tie.Need-returns
 unfolding entryOf
-returns c = cc
+returns c = rw (c .before .copy .ensures, c .before .before .before .before .put32 .ensures)
 
 pub entry-of-spec : {M : Type 1} → statement M
 entry-of-spec =
