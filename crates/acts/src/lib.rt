@@ -3,6 +3,7 @@ pub mod creating;
 pub mod formatting;
 pub mod judging;
 pub mod linking;
+pub mod looking;
 pub mod moving;
 pub mod unlinking;
 

@@ -14,7 +14,7 @@ use Rattle.sfs.specs.FileCalls.{Read, Written, Sized, ReadC, WrittenC, S
 use Rattle.sfs.specs.declared.said.Said.{Said}
 
 -- what depends on the opening alone is the same of two openings
-by-opening : {A : Type 0} (f : Opened → A) {o p : Opened} {x y : A} → o ≡ p → x ≡ f o → y ≡ f p → x ≡ y
+pub by-opening : {A : Type 0} (f : Opened → A) {o p : Opened} {x y : A} → o ≡ p → x ≡ f o → y ≡ f p → x ≡ y
 by-opening f e a b = a ∙ ap f e ∙ sym b
 
 -- the answer, what the call changes, and the scratch
@@ -30,13 +30,13 @@ pub record SameC (a₁ a₂ v₁ v₂ : ℕ) (x₁ x₂ s₁ s₂ : List ℕ) : 
   pub changed : x₁ ≡ x₂
   pub scratch : s₁ ≡ s₂
 
-module _ {img s s₁ s₂ : List ℕ} {n : ℕ} {o p : Opened} (a : Opening img s s₁ n n o) (b : Opening img s s₂ n n p) where
+module _ {img s s₁ s₂ : List ℕ} {n m : ℕ} {o p : Opened} (a : Opening img s s₁ n m o) (b : Opening img s s₂ n m p) where
   -- two calls whose answer and change depend on the opening alone
-  same : (f : Opened → Said) (g : Opened → List ℕ) {r₁ r₂ : Said} {x₁ x₂ : List ℕ}
+  pub same : (f : Opened → Said) (g : Opened → List ℕ) {r₁ r₂ : Said} {x₁ x₂ : List ℕ}
       → r₁ ≡ f o → r₂ ≡ f p → x₁ ≡ g o → x₂ ≡ g p → Same r₁ r₂ x₁ x₂ s₁ s₂
   same f g d e h k = let q = agree a b in record { said = by-opening f (q .0) d e; changed = by-opening g (q .0) h k; scratch = q .1 }
 
-same-c : {r₁ r₂ : Said} {a₁ a₂ v₁ v₂ : ℕ} {x₁ x₂ s₁ s₂ : List ℕ} → Same r₁ r₂ x₁ x₂ s₁ s₂
+pub same-c : {r₁ r₂ : Said} {a₁ a₂ v₁ v₂ : ℕ} {x₁ x₂ s₁ s₂ : List ℕ} → Same r₁ r₂ x₁ x₂ s₁ s₂
     → a₁ ≡ saidNo r₁ → a₂ ≡ saidNo r₂ → v₁ ≡ saidValue r₁ → v₂ ≡ saidValue r₂ → SameC a₁ a₂ v₁ v₂ x₁ x₂ s₁ s₂
 same-c q a b c d =
     record {
@@ -45,6 +45,12 @@ same-c q a b c d =
       changed = q .changed;
       scratch = q .scratch;
     }
+
+-- C has no value of some: 0 for both
+pub no-value : {r₁ r₂ : Said} {a₁ a₂ : ℕ} {x₁ x₂ s₁ s₂ : List ℕ} → Same r₁ r₂ x₁ x₂ s₁ s₂ → a₁ ≡ saidNo r₁ → a₂ ≡ saidNo r₂
+    → SameC a₁ a₂ 0 0 x₁ x₂ s₁ s₂
+no-value q a b =
+    record { status = a ∙ ap saidNo (q .said) ∙ sym b; value = refl; changed = q .changed; scratch = q .scratch }
 
 module _ {img s s₁ s₂ : List ℕ} {n : ℕ} where
   -- ---- read: the buffer
@@ -89,13 +95,5 @@ module _ {img s s₁ s₂ : List ℕ} {n : ℕ} where
         (a .image)
         (b .image)
 
-    -- C has no value of it: 0 for both
     pub resize-c-agrees : {a₁ a₂ : ℕ} → SizedC img x₁ s s₁ n len a₁ → SizedC img x₂ s s₂ n len a₂ → SameC a₁ a₂ 0 0 x₁ x₂ s₁ s₂
-    resize-c-agrees a b =
-        let q = resize-agrees (a .call) (b .call) in
-        record {
-          status = a .status-is ∙ ap saidNo (q .said) ∙ sym (b .status-is);
-          value = refl;
-          changed = q .changed;
-          scratch = q .scratch;
-        }
+    resize-c-agrees a b = no-value (resize-agrees (a .call) (b .call)) (a .status-is) (b .status-is)

@@ -1,2 +1,3 @@
 pub mod Opened
 pub mod Agree
+pub mod AgreeDirs

@@ -2,24 +2,51 @@
 -- two answers a call has. Assumes nothing.
 use Prim.Native.Nat.{ℕ, _+_, _*_, _≤_, _<_}
 use mathlib.Core.Path.{_≡_, refl, sym, ap, _∙_}
+use mathlib.Core.Bool.{Bool, true, false}
 use mathlib.Core.List.{List, [], _∷_}
 use types.Run.{OneOf, miss}
 use denote.Enum.Declared.{tagOf}
 use native.Mathlib.Omega.{arith}
+use lib.Dec.{eqb}
 use lib.ListN.{length}
+use borrow.Author.Tests.{eqb-false}
+use Rattle.words.specs.Words.{pick}
 use Rattle.words.specs.Sums.{cnt}
 use Rattle.layout.specs.Super.{blocks}
 use Rattle.layout.specs.Sizes.{blocksFor}
-use Rattle.layout.specs.Inode.{size, count}
+use Rattle.layout.specs.Inode.{size, kind, count, headBy, decoded}
+use Rattle.layout.specs.declared.inode.Head.{Head}
+use Rattle.layout.specs.declared.inode.Decoded.{Decoded}
+use Rattle.layout.specs.declared.inode.Decoded.the-variants.{Good, BadKind}
 use Rattle.card.specs.Whole.{Reached, Whole}
 use Rattle.card.proofs.Owners.{inode-below}
 use Rattle.blocks.specs.Steps.{Sizes}
+use Rattle.acts.specs.Answers.{ofHead}
 use Rattle.walk.proofs.Opened.{the-type as opened-type}
 use Rattle.walk.specs.declared.Counts.{Counts}
 use Rattle.walk.specs.declared.Opened.{Opened}
 use Rattle.walk.specs.declared.Opened.the-variants.{Open, ScratchShort, WrongFs, Damaged, NoInode}
 use Rattle.walk.specs.Opening.{statusOf, blocksOf, Opening, whole, no-inode, damaged, scratch-short, wrong-fs, unsized}
 use Rattle.sfs.specs.Said.{ifOpen}
+
+-- ---- a kind that is one of the three
+
+no-head : (h : Head) → Good h ≡ BadKind → ⊥
+no-head h e = let z : _≡_ {A = ℕ} 1 0 = ap (λ (d : Decoded). ofHead d 0 (λ g. 1)) e in omega arith
+
+by-tests : (a b c : Bool) (f g h : Head) → pick a (Good f) (pick b (Good g) (pick c (Good h) BadKind)) ≡ BadKind
+    → (a ≡ false) × (b ≡ false) × (c ≡ false)
+by-tests true b c f g h e = absurd (no-head f e)
+by-tests false true c f g h e = absurd (no-head g e)
+by-tests false false true f g h e = absurd (no-head h e)
+by-tests false false false f g h e = (refl, refl, refl)
+
+unknown-kind : (img : List ℕ) (n : ℕ) → decoded img n ≡ BadKind → 1 ≤ kind img n → kind img n ≤ 3 → ⊥
+unfolding headBy
+unknown-kind img n e l m =
+    let k = kind img n in
+    let t = by-tests (eqb k 1) (eqb k 2) (eqb k 3) _ _ _ e in
+    omega (arith, eqb-false k 1 (t .0), eqb-false k 2 (t .1), eqb-false k 3 (t .2))
 
 -- ---- a whole card has what the crates below ask
 
@@ -36,6 +63,9 @@ module _ {img : List ℕ} (w : Whole img) where
 
     pub reached-counted : count img n ≡ blocksFor (size img n)
     reached-counted = w .sound .inode n listed .counted
+
+    pub reached-kind : decoded img n ≡ BadKind → ⊥
+    reached-kind e = let i = w .sound .inode n listed in unknown-kind img n e (i .kind-low) (i .kind-high)
 
     pub record-in : 4096 * n + 80 ≤ length img
     record-in = omega (arith, reached-below, w .sound .sized .long)

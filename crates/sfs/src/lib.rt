@@ -4,8 +4,12 @@ ghost use Rattle.walk.specs.Opening.{statusOf, blocksOf, unusedOf};
 ghost use Rattle.sfs.specs.Check.{Checked};
 use walk::Opened;
 
+pub mod c_dirs;
 pub mod c_files;
+pub mod c_looks;
+pub mod dir_calls;
 pub mod file_calls;
+pub mod look_calls;
 pub mod said;
 
 // 01's number of an answer.

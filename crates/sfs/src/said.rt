@@ -1,6 +1,7 @@
 // What a call says: 01's names, and a value where it has one.
 ghost use mathlib.Core.Path.{_≡_};
-ghost use Rattle.sfs.specs.Said.{saidNo, saidValue, ofOpened, ofFiled};
+ghost use Rattle.sfs.specs.Said.{saidNo, saidValue, ofOpened, ofFiled, ofActed};
+use acts::Acted;
 use files::Filed;
 use walk::Opened;
 
@@ -89,5 +90,23 @@ pub fn of_filed(r: Filed) -> Said
         Filed::NotFile => Said::NotFile,
         Filed::InvalidParam => Said::InvalidParam,
         Filed::NoDeviceSpace => Said::NoDeviceSpace,
+    }
+}
+
+// What a call on a directory says.
+pub fn of_acted(r: Acted) -> Said
+    ensures { λ x. ⌜ x ≡ ofActed r ⌝ }
+{
+    match r {
+        Acted::Done(v) => Said::Done(v),
+        Acted::NotDir => Said::NotDir,
+        Acted::IsDir => Said::IsDir,
+        Acted::BadName => Said::BadName,
+        Acted::EntryExist => Said::EntryExist,
+        Acted::EntryNotFound => Said::EntryNotFound,
+        Acted::DirNotEmpty => Said::DirNotEmpty,
+        Acted::InvalidParam => Said::InvalidParam,
+        Acted::TooManyLinks => Said::TooManyLinks,
+        Acted::NoDeviceSpace => Said::NoDeviceSpace,
     }
 }

@@ -14,11 +14,15 @@ use Rattle.layout.specs.declared.inode.FileType.{FileType}
 use Rattle.layout.proofs.InodeLaws.{inodeAt}
 use Rattle.card.specs.View.{entries, entry, name}
 use Rattle.card.specs.Whole.{Sound}
+use Rattle.card.specs.Places.{Place, held, InUse}
 use Rattle.card.proofs.Views.{entry-cong, name-cong}
-use Rattle.card.proofs.Isolation.{sound-one}
+use Rattle.card.proofs.Kept.{slots-few}
+use Rattle.card.proofs.Isolation.{sound-one, data-slots}
 use Rattle.files.specs.Resizing.{resized}
 use Rattle.files.specs.Requests.{longest, needs}
 use Rattle.entries.specs.Entries.{entryPut, appended}
+use Rattle.theory.proofs.Resized.{held-is}
+use Rattle.theory.proofs.Return.{in-use-more}
 use Rattle.theory.proofs.Edits.{Edited, edited-trans}
 use Rattle.theory.proofs.Links.{ResizedWith, links-change, resized-edited}
 use Rattle.theory.proofs.Entry.{EntryPut, entry-put}
@@ -28,6 +32,8 @@ pub record Appended (img out : List ℕ) (n v : ℕ) (e : List ℕ) : Type 0 whe
   pub links-is : links out n ≡ v
   pub size-is : size out n ≡ size img n + 260
   pub entries-is : entries out n ≡ entries img n + 1
+  -- the blocks that it had stay
+  pub places : (p : Place) → InUse img n p → held out n p ≡ held img n p
   -- the old entries, and the new one
   pub entry-kept : (i : ℕ) → i < entries img n → entry out n i ≡ entry img n i
   pub name-kept : (i : ℕ) → i < entries img n → name out n i ≡ name img n i
@@ -35,14 +41,19 @@ pub record Appended (img out : List ℕ) (n v : ℕ) (e : List ℕ) : Type 0 whe
   pub name-new : name out n (entries img n) ≡ uptoNul (drop 4 e)
 
 -- the directory is 260 longer, then its last entry is e
-appended-by : {img mid out l e : List ℕ} {n v : ℕ} → ResizedWith img mid n (size img n + 260) v → EntryPut l mid out n (entries img n) e
+appended-by : {img mid out l e : List ℕ} {n v : ℕ} → Sound img l → 0 < cnt n l → ResizedWith img mid n (size img n + 260) v → EntryPut l mid out n (entries img n) e
     → Appended img out n v e
-appended-by {img} {mid} {out} {l} {e} {n} {v} r p =
+appended-by {img} {mid} {out} {l} {e} {n} {v} s h r p =
+    let t : Sound mid l = sound-one s h (r .within) (r .balanced) in
+    let more : count img n ≤ count mid n = omega (arith, s .inode n h .counted, t .inode n h .counted, r .size-is) in
     record {
       edited = edited-trans (resized-edited r) (p .edited);
       links-is = p .links-is ∙ r .links-is;
       size-is = p .size-is ∙ r .size-is;
       entries-is = ap (λ (x : ℕ). x / 260) (p .size-is ∙ r .size-is) ∙ omega arith;
+      places = λ q u.
+          let v : InUse mid n q = in-use-more img mid n more q u in
+          held-is (data-slots t h (p .within-data)) (slots-few t n h) q v ∙ r .places q u v;
       entry-kept = λ i b.
           p .entry-kept i (λ q. omega arith) (omega (arith, r .size-is))
           ∙ entry-cong mid img n n i i (λ k q. r .kept (260 * i + k) (omega arith) (omega arith));
@@ -59,7 +70,7 @@ module _ (img l : List ℕ) (s : Sound img l) (bytes : Bytes img) (n : ℕ) (h :
   pub append-entry : Appended img (appended (blocks img) n (withLinks (inodeAt img n k) v) e img) n v e
   unfolding appended
   append-entry =
-      appended-by r
+      appended-by s h r
       (subst (λ (b : ℕ). EntryPut l mid (entryPut b n (entries img n) e mid) n (entries img n) e) (r .balanced .steady .blocks-same)
       (entry-put mid l (sound-one s h (r .within) (r .balanced)) (r .bytes) n h (entries img n) e long src (omega (arith, r .size-is))))
     where

@@ -5,7 +5,7 @@ use mathlib.Core.List.{List, _∷_}
 use mathlib.Core.Logic.{_≢_}
 use Prim.Native.Nat.{ℕ, _+_, _≤_, _<_}
 use native.Mathlib.Omega.{arith}
-use native.Mathlib.Decide.{ℕ-discrete}
+use native.Mathlib.Decide.{decLt, ℕ-discrete}
 use borrow.Author.Tests.{eq-eqb, ne-eqb}
 use lib.Dec.{eqb}
 use Rattle.words.specs.Words.{pick, Bytes}
@@ -20,22 +20,26 @@ use Rattle.layout.specs.declared.inode.FileType.the-variants.{Dir}
 use Rattle.layout.proofs.InodeLaws.{inodeAt}
 use Rattle.freemap.specs.Bits.{mapBit}
 use Rattle.freemap.specs.Free.{lowest, taken}
-use Rattle.card.specs.View.{entries, entry}
+use Rattle.card.specs.View.{dataAt, entries, entry, owns}
+use Rattle.card.specs.Places.{Place, held, InUse}
 use Rattle.card.specs.Whole.{Reached, Sound, Tree, Whole, Dir as DirRules}
 use Rattle.card.proofs.Views.{owned-few}
-use Rattle.card.proofs.Frames.{SameFile, size-is, kind-is, links-is, count-is, entry-is, dir-is}
+use Rattle.card.proofs.Frames.{SameFile, size-is, kind-is, links-is, count-is, data-is, owns-is, entry-is, dir-is}
+use Rattle.card.proofs.Kept.{slots-few}
 use Rattle.card.proofs.Isolation.{data-refl}
+use Rattle.blocks.proofs.Taken.{nthFree}
 use Rattle.entries.specs.Entries.{whereIs, appended}
 use Rattle.acts.specs.Answers.{actedNo, actedValue}
 use Rattle.acts.specs.Create.{fileKind, freshInode, createTakes, createAnswer, bareDir, emptyDir, madeFile, madeDir, made, createCard}
 use Rattle.acts.specs.declared.Acted.the-variants.{Done}
 use Rattle.theory.proofs.Requests.{of-kind}
+use Rattle.theory.proofs.Resized.{held-is, in-use-is}
 use Rattle.theory.proofs.TreeAdd.{NewFile, NewDir}
 use Rattle.theory.proofs.Edits.{Edited, data-edited}
 use Rattle.theory.proofs.Append.{Appended}
 use Rattle.theory.proofs.EntryCounts.{EntryMore, found-more}
 use Rattle.theory.proofs.NameTests.{can-where}
-use Rattle.theory.proofs.NewInode.{Fresh, new-inode, next-lowest}
+use Rattle.theory.proofs.NewInode.{Fresh, new-inode, next-lowest, second-lowest}
 use Rattle.theory.proofs.CreateTests.{CanCreate, CreateTests, create-6, create-8, create-9, create-12, create-13, create-14, create-done, create-tests}
 use Rattle.theory.proofs.Creating.{
   append-there,
@@ -55,7 +59,7 @@ use Rattle.theory.proofs.Creating.{
   out-takes,
   out-tree,
 }
-use Rattle.theory.proofs.CreateDir.{EmptyDir, empty-edited, empty-dir}
+use Rattle.theory.proofs.CreateDir.{EmptyDir, empty-edited, empty-dir, empty-block}
 
 -- a file or a symbolic link with nothing in it, and one name
 pub record EmptyFile (out : List ℕ) (i : ℕ) : Type 0 where
@@ -89,6 +93,11 @@ pub record CreateDone (l img out : List ℕ) (p : ℕ) (x : List ℕ) (k i : ℕ
   pub takes : unused out + createTakes (headAt img p Dir) k ≡ unused img
   pub lowest-free : i ≡ lowest img 0 (blocks img)
   pub was-free : mapBit img i ≡ 1
+  -- a directory's block is the lowest after it
+  pub dir-block : k ≡ 2 → dataAt out i 0 ≡ nthFree (blocks img) img 1
+  -- the parent's blocks stay; a block that the two have and the parent had not was free
+  pub parent-places : (q : Place) → InUse img p q → held out p q ≡ held img p q
+  pub balance : (b : ℕ) → b < blocks img → owns out i b + (owns out p b + mapBit out b) ≡ owns img p b + mapBit img b
 
 -- in sight of a caller
 abbrev pub created-whole : {l img out : List ℕ} {p : ℕ} {x : List ℕ} {k i : ℕ} → CreateDone l img out p x k i → Whole out
@@ -126,7 +135,8 @@ module _ {img : List ℕ} (w : Whole img) (bytes : Bytes img) (p : ℕ) (r : Rea
   module _ {mid new out : List ℕ} {v n : ℕ} {t : FileType} (f : Fresh l img mid i t v)
       (e : Edited mid new i) (a : Appended new out p n (entryOf i x))
       (kind-as : kindNo t ≡ k) (file : k ≢ 2 → EmptyFile new i) (dir : k ≡ 2 → EmptyDir new i p)
-      (linked : n ≡ links img p + pick (eqb k 2) 1 0) (took : owned (count new i) ≡ pick (eqb k 2) 1 0) where
+      (linked : n ≡ links img p + pick (eqb k 2) 1 0) (took : owned (count new i) ≡ pick (eqb k 2) 1 0)
+      (block : k ≡ 2 → dataAt new i 0 ≡ nthFree (blocks img) img 1) where
     same : SameFile new out i
     same = made-same (w .sound) f e x p-listed a
 
@@ -173,6 +183,36 @@ module _ {img : List ℕ} (w : Whole img) (bytes : Bytes img) (p : ℕ) (r : Rea
     tree-out : Tree out (i ∷ l)
     tree-out = out-tree (w .sound) f e x p-listed a (w .tree) (can .name) new-file new-dir
 
+    took-some : k ≡ 2 → 0 < count new i
+    took-some q = go (decLt 0 (count new i))
+      where
+        go : Dec (0 < count new i) → 0 < count new i
+        go (yes c) = c
+        go (no c) =
+            let z : count new i ≡ 0 = omega arith in
+            absurd (omega (arith, took, extra-dir k q, ap owned z, owned-few 0 (omega arith)))
+
+    -- p is before the append as it was
+    p-same : SameFile img new p
+    p-same = old-same (w .sound) f e p p-listed
+
+    places-out : (q : Place) → InUse img p q → held out p q ≡ held img p q
+    places-out q u =
+        a .places q (in-use-is new img p (sym (count-is (p-same .slots .rec))) q u)
+        ∙ held-is (p-same .slots) (slots-few (w .sound) p p-listed) q u
+
+    balance-out : (b : ℕ) → b < blocks img → owns out i b + (owns out p b + mapBit out b) ≡ owns img p b + mapBit img b
+    balance-out b q =
+        let m : blocks new ≡ blocks img = new-blocks (w .sound) f e in
+        omega (
+          arith,
+          f .balance b q,
+          e .balanced .balance b (omega (arith, f .blocks-is)),
+          a .edited .balanced .balance b (omega arith),
+          owns-is (same .slots) (slots-few (new-sound (w .sound) f e) i (listed-here i l)) b,
+          owns-is (p-same .slots) (slots-few (w .sound) p p-listed) b,
+        )
+
     create-by : CreateDone l img out p x k i
     create-by =
         let m = out-more (w .sound) f e x p-listed a (can .name .stored) in
@@ -195,6 +235,9 @@ module _ {img : List ℕ} (w : Whole img) (bytes : Bytes img) (p : ℕ) (r : Rea
           takes = omega (arith, out-takes (w .sound) f e x p-listed a, took);
           lowest-free = next-lowest img l (w .sound) some-free;
           was-free = f .was-free;
+          dir-block = λ q. data-is (same .slots) 0 (omega (arith, took-some q)) ∙ block q;
+          parent-places = places-out;
+          balance = balance-out;
         }
 
   -- ---- a file or a symbolic link
@@ -212,6 +255,7 @@ module _ {img : List ℕ} (w : Whole img) (bytes : Bytes img) (p : ℕ) (r : Rea
       create-by f e a (made-kind d)
       (λ _. record { size-is = f .size-is; links-is = f .links-is; count-is = f .count-is })
       (λ q. absurd (d q)) (omega (arith, extra-file k d)) (ap owned (f .count-is) ∙ owned-few 0 (omega arith) ∙ sym (extra-file k d))
+      (λ q. absurd (d q))
     where
       mid : List ℕ
       mid = encoded (taken img 0 (blocks img)) i (withLinks (newInode (fileKind k)) 1)
@@ -234,6 +278,7 @@ module _ {img : List ℕ} (w : Whole img) (bytes : Bytes img) (p : ℕ) (r : Rea
   unfolding madeDir emptyDir
   dir-done q =
       create-by f e a (sym q) (λ d. absurd (d q)) (λ _. g) (omega (arith, extra-dir k q)) (one-block ∙ sym (extra-dir k q))
+      (λ _. empty-block f p (number-fits (w .sound) p p-listed) enough ∙ second-lowest f (next-lowest img l (w .sound) some-free))
     where
       mid : List ℕ
       mid = encoded (taken img 0 (blocks img)) i bareDir

@@ -9,19 +9,25 @@ use lib.ListN.{length}
 use Rattle.words.specs.Words.{byte, Bytes}
 use Rattle.words.specs.Sums.{cnt}
 use Rattle.layout.specs.Super.{blocks, unused}
-use Rattle.layout.specs.Inode.{size, kind, links, withLinks}
+use Rattle.layout.specs.Inode.{size, kind, links, count, withLinks}
 use Rattle.layout.specs.Entry.{Name, entryOf}
-use Rattle.layout.specs.Slots.{owned}
+use Rattle.layout.specs.Slots.{seconds, owned}
 use Rattle.layout.specs.declared.inode.FileType.the-variants.{Dir}
 use Rattle.layout.specs.declared.inode.DiskINode.{DiskINode}
-use Rattle.card.specs.View.{entries, entry, name}
+use Rattle.card.specs.View.{dataAt, entries, entry, name}
 use Rattle.card.specs.Whole.{Sound, Dir as DirRules}
+use Rattle.card.specs.Places.{at-data}
 use Rattle.card.proofs.Views.{owned-few}
+use Rattle.card.proofs.Frames.{data-is}
+use Rattle.card.proofs.Isolation.{data-slots}
+use Rattle.blocks.proofs.Taken.{nthFree}
 use Rattle.files.specs.Resizing.{resized}
 use Rattle.entries.specs.Entries.{entryPut}
 use Rattle.entries.specs.Names.{dot, dots, noNul}
 use Rattle.entries.proofs.Given.{storable-name}
 use Rattle.acts.specs.Create.{bareDir}
+use Rattle.theory.proofs.Plan.{planned}
+use Rattle.theory.proofs.Placed.{Placed, grow-placed}
 use Rattle.theory.proofs.Edits.{Edited, edited-trans, edited-sound}
 use Rattle.theory.proofs.Links.{ResizedWith, links-change, resized-edited}
 use Rattle.theory.proofs.Entry.{EntryPut, entry-put, entryOf-length, entryOf-bytes, entryOf-number, entryOf-name}
@@ -143,6 +149,29 @@ module _ {l img mid : List ℕ} {i : ℕ} (f : Fresh l img mid i Dir 2) (p : ℕ
       apart : (a k : ℕ) → a ≡ 0 → k ≡ 1 → name out i a ≡ name out i k → ⊥
       apart a k x y e =
           omega (arith, ap length (sym name-0 ∙ ap (name out i) (sym x) ∙ e ∙ ap (name out i) y ∙ name-1))
+
+  -- its block is the lowest free one
+  placed : Placed mid long i 520
+  placed =
+      subst (λ (b : ℕ). Placed mid (resized b i bareDir 520 mid) i 520) (f .blocks-is)
+      (subst (λ (d : DiskINode). Placed mid (resized (blocks mid) i d 520 mid) i 520) (f .record-is)
+      (grow-placed mid (i ∷ l) (f .sound) (f .bytes) i here Dir (f .kind-is) 520 (omega arith)
+      (omega (arith, room, ap owned (f .count-is), owned-few 1 (omega arith), owned-few 0 (omega arith)))
+      (omega (arith, f .count-is))))
+
+  first-planned : planned mid i 1 (at-data 0) ≡ nthFree (blocks mid) mid 0
+  unfolding seconds
+  first-planned = rw (f .count-is)
+
+  pub empty-block : dataAt out i 0 ≡ nthFree (blocks mid) mid 0
+  empty-block =
+      data-is (data-slots (one .sound) here (two .within-data)) 0 (omega (arith, one .count-is, one-long))
+      ∙ data-is (data-slots long-sound here (one .within-data)) 0 (omega (arith, one-long))
+      ∙ placed .places (at-data 0) (omega arith)
+      ∙ first-planned
+    where
+      one-long : count long i ≡ 1
+      one-long = omega (arith, grown .balanced .inode .counted, grown .size-is)
 
   pub empty-edited : Edited mid out i
   empty-edited = edited-trans (resized-edited grown) (edited-trans (one .edited) (two .edited))

@@ -21,10 +21,12 @@ pub mod TreeMove
 pub mod Resized
 pub mod Only
 pub mod Requests
+pub mod Placed
 pub mod Lengths
 pub mod Steps
 pub mod Writing
 pub mod Return
+pub mod FreeFrom
 pub mod Files
 pub mod Calls
 pub mod LinkBytes
@@ -51,3 +53,6 @@ pub mod MoveDir
 pub mod MoveCarry
 pub mod MoveJudged
 pub mod MoveCard
+pub mod ExamplesFresh
+pub mod ExamplesFile
+pub mod Examples

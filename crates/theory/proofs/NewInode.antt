@@ -34,9 +34,12 @@ use Rattle.layout.proofs.InodeLaws.{
 }
 use Rattle.freemap.specs.Bits.{mapByte, mapBit, freeBits}
 use Rattle.freemap.specs.Free.{lowest, takenAt, taken}
-use Rattle.freemap.proofs.Map.{bit-is, free-is}
+use Rattle.freemap.proofs.Map.{bit-is, bit-below, free-is}
 use Rattle.freemap.proofs.Laws.{
   lowest-free,
+  lowest-least,
+  lowest-on,
+  lowest-cong,
   lowest-finds,
   taken-some,
   length-takenAt,
@@ -56,6 +59,17 @@ use Rattle.card.proofs.Kept.{Steady, bit-of}
 use Rattle.card.proofs.Isolation.{Among, Added, listed-same, sound-add}
 use Rattle.blocks.specs.Taking.{nextFree}
 use Rattle.blocks.proofs.Growth.{nextFree-some}
+use Rattle.blocks.proofs.Taken.{nthFree}
+
+-- an inode with no blocks owns its own
+pub owns-none : (img : List ℕ) (n b : ℕ) → count img n ≡ 0 → owns img n b ≡ δ n b
+owns-none img n b e =
+    omega (
+      arith,
+      owns-few img n b (omega arith),
+      ap (sumTo (λ x. δ (dataAt img n x) b)) e,
+      sumTo-zero (λ x. δ (dataAt img n x) b),
+    )
 
 -- what the first step leaves of a card: inode i has the record d, and no listed inode changed
 pub record Fresh (l img out : List ℕ) (i : ℕ) (t : FileType) (v : ℕ) : Type 0 where
@@ -68,6 +82,7 @@ pub record Fresh (l img out : List ℕ) (i : ℕ) (t : FileType) (v : ℕ) : Typ
   pub same : (m : ℕ) → 0 < cnt m l → SameFile img out m
   pub blocks-is : blocks out ≡ blocks img
   pub takes : unused out + 1 ≡ unused img
+  pub balance : (b : ℕ) → b < blocks img → owns out i b + mapBit out b ≡ mapBit img b
   pub size-is : size out i ≡ 0
   pub kind-is : kind out i ≡ kindNo t
   pub links-is : links out i ≡ v
@@ -202,13 +217,7 @@ module _ (img l : List ℕ) (s : Sound img l) (bytes : Bytes img) (i : ℕ) (low
       )
 
   owns-new : (b : ℕ) → owns out i b ≡ δ i b
-  owns-new b =
-      omega (
-        arith,
-        owns-few out i b (omega (arith, count-new)),
-        ap (sumTo (λ x. δ (dataAt out i x) b)) count-new,
-        sumTo-zero (λ x. δ (dataAt out i x) b),
-      )
+  owns-new b = owns-none out i b count-new
 
   steady : Steady img out
   steady =
@@ -264,6 +273,7 @@ module _ (img l : List ℕ) (s : Sound img l) (bytes : Bytes img) (i : ℕ) (low
         same = listed-same s among;
         blocks-is = steady .blocks-same;
         takes = takes-one (omega (arith, free-out));
+        balance = added .balance;
         size-is = size-new;
         kind-is = kind-new;
         links-is = links-new;
@@ -289,3 +299,29 @@ module _ (img l : List ℕ) (s : Sound img l) (room : 0 < unused img) where
       (sym next-taken)
       (new-at img l s bytes (nextFree (blocks img) img 0) (rw next-lowest lowest-below)
       (ap (mapBit img) next-lowest ∙ lowest-free img 0 (blocks img) lowest-below) t v small)
+
+-- the block that is then the lowest free one was the second
+module _ {l img out : List ℕ} {i v : ℕ} {t : FileType} (f : Fresh l img out i t v) (first : i ≡ lowest img 0 (blocks img)) where
+  bit-new : (b : ℕ) → b < blocks img → δ i b + mapBit out b ≡ mapBit img b
+  bit-new b q = omega (arith, f .balance b q, owns-none out i b (f .count-is))
+
+  none-to : (k : ℕ) → k < i + 1 → mapBit out k ≡ 1 → ⊥
+  none-to k q e =
+      omega (
+        arith,
+        bit-new k (omega (arith, f .below)),
+        bit-below img k,
+        ⊎-elim (λ w. w .1) (λ w. absurd (w .0 (here w))) (δ-cases i k),
+      )
+    where
+      here : ((i ≡ k → ⊥) × (δ i k ≡ 0)) → i ≡ k
+      here w =
+          omega (arith, first, lowest-least img 0 (blocks img) k (omega arith) (omega (arith, f .below)) (omega (arith, bit-new k (omega (arith, f .below)), w .1)))
+
+  pub second-lowest : nthFree (blocks out) out 0 ≡ nthFree (blocks img) img 1
+  unfolding nthFree
+  second-lowest =
+      ap (lowest out 0) (f .blocks-is)
+      ∙ lowest-on out 0 (i + 1) (blocks img) (omega arith) (omega (arith, f .below)) (λ k p q. none-to k q)
+      ∙ lowest-cong img out (i + 1) (blocks img) (λ k p q. omega (arith, bit-new k q, δ-other i k (λ e. omega arith)))
+      ∙ ap (λ (b : ℕ). lowest img (b + 1) (blocks img)) first

@@ -25,7 +25,7 @@ use Rattle.theory.proofs.Steps.{Step}
 use Rattle.theory.proofs.Writing.{step}
 
 -- a number is its bits
-bits-same : (n x y : ℕ) → x < 2 ^ n → y < 2 ^ n → ((k : ℕ) → k < n → bitOf x k ≡ bitOf y k) → x ≡ y
+pub bits-same : (n x y : ℕ) → x < 2 ^ n → y < 2 ^ n → ((k : ℕ) → k < n → bitOf x k ≡ bitOf y k) → x ≡ y
 bits-same zero x y a b h = omega arith
 bits-same (suc n) x y a b h =
     let e : x / 2 ≡ y / 2 =

@@ -1,0 +1,73 @@
+-- `sfs::look_calls::metadata` meets its contract. An inode of an open card has one of the three kinds. Assumes nothing.
+use mathlib.Core.Path.{_∙_}
+use Rattle.sfs.proofs.Opened.{ready, record-in, reached-kind, on-open, on-shut}
+use borrow.Author.Needs.{needs}
+use Rattle.sfs.proofs.look_calls.metadata.Statement.{statement}
+use Rattle.sfs.proofs.look_calls.metadata.Tie as tie
+
+open-card-requires : tie.Need-open-card-requires
+open-card-requires c κs = search needs
+
+enum-told : tie.Need-enum-told
+enum-told c = search needs
+
+of-opened-requires : tie.Need-of-opened-requires
+of-opened-requires c κs = search needs
+
+not-described-requires : tie.Need-not-described-requires
+not-described-requires c κs = search needs
+
+same-length : tie.Need-same-length
+same-length c = search needs
+
+returns : tie.Need-returns
+returns c =
+    let o = c .before .before .before .before .before .open-card in
+    let t = c .before .before .match .keys2 in
+    let d = c .not-described .ensures in
+    record {
+      opened = o .result;
+      opening = o .ensures;
+      said = on-shut (o .result) _ _ t (d .0 ∙ c .before .of-opened .ensures);
+      kind-is = on-shut (o .result) _ _ t (d .1);
+      size-is = on-shut (o .result) _ _ t (d .2);
+      blocks-is = on-shut (o .result) _ _ t (d .3);
+      links-is = on-shut (o .result) _ _ t (d .4);
+    }
+
+describe-requires : tie.Need-describe-requires
+describe-requires c κs =
+    let r = ready _ (c .before .before .before .before .open-card .ensures) (c .enum-told .given .1) in
+    (record-in (r .card) (r .first), reached-kind (r .card) (r .first))
+
+same-length-2 : tie.Need-same-length-2
+same-length-2 c = search needs
+
+returns-2 : tie.Need-returns-2
+returns-2 c =
+    let o = c .before .before .before .before .before .open-card in
+    let e = c .before .enum-told .given .1 in
+    let d = c .describe .ensures in
+    record {
+      opened = o .result;
+      opening = o .ensures;
+      said = on-open _ _ _ e (d .0);
+      kind-is = on-open _ _ _ e (d .1);
+      size-is = on-open _ _ _ e (d .2);
+      blocks-is = on-open _ _ _ e (d .3);
+      links-is = on-open _ _ _ e (d .4);
+    }
+
+pub metadata-spec : {M : Type 1} → statement M
+metadata-spec =
+    tie.close
+    (tie.spec
+    open-card-requires
+    enum-told
+    of-opened-requires
+    not-described-requires
+    same-length
+    returns
+    describe-requires
+    same-length-2
+    returns-2)

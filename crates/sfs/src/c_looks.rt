@@ -1,0 +1,71 @@
+// Metadata, find and the entry at an index as C calls them (include/sfs.h): the answer's number, and each result behind a pointer.
+ghost use mathlib.Core.Path.{_≡_};
+ghost use lib.ListN.{length};
+ghost use Rattle.layout.specs.Entry.{nameIn};
+ghost use Rattle.sfs.specs.DirCallsC.{FoundC, ListedC, DescribedC};
+use crate::look_calls;
+use crate::said;
+use layout::INodeId;
+use layout::entry;
+
+#[no_mangle]
+pub extern "C" fn sfs_metadata(
+    image: &[u8],
+    scratch: &mut [u32],
+    inode: u32,
+    kind: &mut u32,
+    size: &mut u32,
+    blocks: &mut u32,
+    links: &mut u32,
+) -> u32
+    ensures { λ r. ⌜ DescribedC (now (image .entry)) (now (scratch .entry)) (now (scratch .exit)) inode r (now (kind .exit)) (now (size .exit)) (now (blocks .exit)) (now (links .exit)) ⌝ }
+{
+    let d = look_calls::metadata(image, scratch, INodeId(inode));
+    *kind = d.kind;
+    *size = d.size;
+    *blocks = d.blocks;
+    *links = d.links;
+    let r = d.said;
+    said::number_of(r)
+}
+
+#[no_mangle]
+pub extern "C" fn sfs_find(
+    image: &[u8],
+    scratch: &mut [u32],
+    dir: u32,
+    name: &[u8],
+    number: &mut u32,
+) -> u32
+    ensures { λ r. ⌜ FoundC (now (image .entry)) (now (scratch .entry)) (now (scratch .exit)) dir (now (name .entry)) r (now (number .exit)) ⌝ }
+{
+    let r = look_calls::find(image, scratch, INodeId(dir), name);
+    *number = said::value_of(r);
+    said::number_of(r)
+}
+
+#[no_mangle]
+pub extern "C" fn sfs_entry(
+    image: &[u8],
+    scratch: &mut [u32],
+    dir: u32,
+    index: u64,
+    bytes: &mut [u8; 260],
+) -> u32
+    ensures { λ r. ⌜ ListedC (now (image .entry)) (now (scratch .entry)) (now (scratch .exit)) dir index r (now (bytes .exit)) ⌝ }
+{
+    let l = look_calls::entry(image, scratch, INodeId(dir), index);
+    let b = l.entry;
+    *bytes = b;
+    let r = l.said;
+    said::number_of(r)
+}
+
+// The length of the name in an entry: 0 where there is no NUL, or another length.
+#[no_mangle]
+pub extern "C" fn sfs_entry_name(e: &[u8]) -> usize
+    ensures { λ r. ⌜ r ≡ length (nameIn (now (e .entry))) ⌝ }
+{
+    let x = entry::name_of(e);
+    x.len()
+}
