@@ -2,14 +2,14 @@
 use mathlib.Core.Path.{_≡_, refl, sym, ap, _∙_}
 use mathlib.Core.Logic.{_≢_}
 use mathlib.Core.List.{List}
-use Prim.Native.Nat.{ℕ, zero, suc, _+_, _-_, _≤_, _<_}
+use Prim.Native.Nat.{ℕ, zero, suc, _+_, _-_, _*_, _/_, _%_, _≤_, _<_}
 use native.Mathlib.Nat.{le-refl, sub-self, add-zero, add-suc}
 use native.Mathlib.Numerals.{add-one}
 use native.Mathlib.Omega.{arith}
 use native.Mathlib.Decide.{ℕ-discrete}
 use lib.ListN.{length, getD, set, length-set, replicate, length-replicate, getD-replicate}
 use lib.Seq.{set-getD, paste, paste-zero, paste-suc, getD-set-same, getD-set-other}
-use Rattle.words.specs.Words.{byte, Apart, Bytes}
+use Rattle.words.specs.Words.{byte, num, putNum, Apart, Bytes}
 use Rattle.words.specs.Runs.{puts, copied, zeroed, turns}
 use Rattle.words.proofs.Numbers.{bytes-set}
 
@@ -75,6 +75,30 @@ puts-same d addr f (suc n) h =
     ap (λ (l : List ℕ). set l (addr n) (f n)) (puts-same d addr f n (λ k l. h k (omega arith)))
     ∙ ap (λ (v : ℕ). set d (addr n) v) (h n (omega arith))
     ∙ set-getD d (addr n) 0
+
+-- n bytes and then m more
+pub copied-add : (d : List ℕ) (at : ℕ) (s : List ℕ) (from n m : ℕ) → copied (copied d at s from n) (at + n) s (from + n) m ≡ copied d at s from (n + m)
+unfolding copied
+copied-add d at s from n m =
+    puts-is (copied d at s from n) _ _ (λ k. at + (n + k)) (λ k. byte s (from + (n + k))) m
+    (λ k l. omega arith)
+    (λ k l. ap (λ (x : ℕ). byte s x) (omega arith))
+    ∙ puts-add d (λ k. at + k) (λ k. byte s (from + k)) n m
+
+-- a number that is read at one place and written at another: its bytes are copied
+pub put-copied : (n : ℕ) (d : List ℕ) (at : ℕ) (s : List ℕ) (from : ℕ) → Bytes s → putNum n d at (num n s from) ≡ copied d at s from n
+unfolding num putNum copied puts
+put-copied zero d at s from h = refl
+put-copied (suc n) d at s from h =
+    let b : byte s from < 256 = h .below from in
+    let low : (byte s from + 256 * num n s (from + 1)) % 256 ≡ byte s from = omega arith in
+    let high : (byte s from + 256 * num n s (from + 1)) / 256 ≡ num n s (from + 1) = omega arith in
+    let a₀ : at + 0 ≡ at = omega arith in
+    let f₀ : from + 0 ≡ from = omega arith in
+    let one : copied d at s from 1 ≡ set d at (byte s from) = rw (a₀, f₀) in
+    let e : 1 + n ≡ suc n = omega arith in
+    rw (low, high, put-copied n (set d at (byte s from)) (at + 1) s (from + 1) h, ← one)
+    (copied-add d at s from 1 n ∙ ap (copied d at s from) e)
 
 pub length-copied : (d : List ℕ) (at : ℕ) (s : List ℕ) (from n : ℕ) → length (copied d at s from n) ≡ length d
 unfolding copied

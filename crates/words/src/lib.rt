@@ -99,8 +99,44 @@ pub fn put64(image: &mut [u8], at: usize, v: u64)
     image[h] = (v / 256 / 256 / 256 / 256 / 256 / 256 / 256 % 256) as u8;
 }
 
-// The n bytes of src from `from` on go to dst from `at` on.
-pub fn copy(src: &[u8], from: usize, dst: &mut [u8], at: usize, n: usize)
+// 16 bytes. All are read before any is written, so that the compiler makes one load and one store of them
+// without asking whether the two slices overlap.
+fn copy16(src: &[u8], from: usize, dst: &mut [u8], at: usize)
+    requires { ⌜ (from + 16 ≤ length (now src)) × (at + 16 ≤ length (now dst)) ⌝ }
+    ensures { λ _. ⌜ now (dst .exit) ≡ copied (now (dst .entry)) at (now (src .entry)) from 16 ⌝ }
+{
+    let a = get64(src, from);
+    let b = get64(src, from + 8);
+    put64(dst, at, a);
+    put64(dst, at + 8, b);
+}
+
+fn copy64(src: &[u8], from: usize, dst: &mut [u8], at: usize)
+    requires { ⌜ (from + 64 ≤ length (now src)) × (at + 64 ≤ length (now dst)) ⌝ }
+    ensures { λ _. ⌜ now (dst .exit) ≡ copied (now (dst .entry)) at (now (src .entry)) from 64 ⌝ }
+{
+    copy16(src, from, dst, at);
+    copy16(src, from + 16, dst, at + 16);
+    copy16(src, from + 32, dst, at + 32);
+    copy16(src, from + 48, dst, at + 48);
+}
+
+// As many of n bytes as whole steps of 128 take: the answer.
+fn copy_steps(src: &[u8], from: usize, dst: &mut [u8], at: usize, n: usize) -> usize
+    requires { ⌜ (from + n ≤ length (now src)) × (at + n ≤ length (now dst)) ⌝ }
+    ensures { λ r. ⌜ (r ≤ n) × (now (dst .exit) ≡ copied (now (dst .entry)) at (now (src .entry)) from r) ⌝ }
+{
+    let mut j = 0;
+    while n - j >= 128 {
+        copy64(src, from + j, dst, at + j);
+        let k = j + 64;
+        copy64(src, from + k, dst, at + k);
+        j = k + 64;
+    }
+    j
+}
+
+fn copy_bytes(src: &[u8], from: usize, dst: &mut [u8], at: usize, n: usize)
     requires { ⌜ (from + n ≤ length (now src)) × (at + n ≤ length (now dst)) ⌝ }
     ensures { λ _. ⌜ now (dst .exit) ≡ copied (now (dst .entry)) at (now (src .entry)) from n ⌝ }
 {
@@ -109,6 +145,15 @@ pub fn copy(src: &[u8], from: usize, dst: &mut [u8], at: usize, n: usize)
         dst[at + j] = src[from + j];
         j += 1;
     }
+}
+
+// The n bytes of src from `from` on go to dst from `at` on.
+pub fn copy(src: &[u8], from: usize, dst: &mut [u8], at: usize, n: usize)
+    requires { ⌜ (from + n ≤ length (now src)) × (at + n ≤ length (now dst)) ⌝ }
+    ensures { λ _. ⌜ now (dst .exit) ≡ copied (now (dst .entry)) at (now (src .entry)) from n ⌝ }
+{
+    let k = copy_steps(src, from, dst, at, n);
+    copy_bytes(src, from + k, dst, at + k, n - k);
 }
 
 // n zeros go to dst from `at` on.

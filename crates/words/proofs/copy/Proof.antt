@@ -1,84 +1,58 @@
-use Rattle.words.proofs.Runs.{puts-none, puts-more}
-use mathlib.Core.Path.{refl, ap, _∙_}
-use Prim.Native.Nat.{ℕ, _+_, zero-le}
-use lib.ListN.{length-set}
-use borrow.Author.Needs.{needs}
-use mathlib.Core.Path.{_≡_}
+use Rattle.words.proofs.Runs.{copied-add}
+use mathlib.Core.Path.{_≡_, ap, _∙_}
+use Prim.Native.Nat.{_+_, _-_}
 use native.Mathlib.Omega.{arith}
-use Prim.Native.Nat.{_≤_, _-_}
-use lib.ListN.{length}
 use Rattle.words.specs.Runs.{copied}
+use borrow.Author.Needs.{needs}
 use Rattle.words.proofs.copy.Statement.{statement}
 use Rattle.words.proofs.copy.Tie as tie
 use Rattle.words.proofs.copy.Reads as reads
 use Rattle.words.proofs.copy.Lts as lts
+use Rattle.words.proofs.copy_bytes.Reads as copy-bytes-reads
+use Rattle.words.proofs.copy_steps.Reads as copy-steps-reads
 
-abbrev Inv-loop : tie.InvT-loop
-Inv-loop src from dst₀ at n j₀ dst j = (j ≤ n) × (dst ≡ copied dst₀ at src from j) × (length dst ≡ length dst₀)
+-- src/lib.rt:153:9
+copy-steps-requires : tie.Need-copy-steps-requires
+copy-steps-requires c κs = search needs
 
-abbrev μ-loop : tie.MeasureT-loop
-μ-loop src from dst₀ at n j₀ dst j = n - j
+-- src/lib.rt:154:21
+add-copy-bytes : tie.Need-add-copy-bytes
+add-copy-bytes c = search needs
 
--- src/lib.rt:64:5
-loop-holds : tie.Need-loop-holds Inv-loop μ-loop
-unfolding copied
-loop-holds c = (zero-le, puts-none _ _ _, refl)
+-- src/lib.rt:154:36
+add-copy-bytes-2 : tie.Need-add-copy-bytes-2
+add-copy-bytes-2 c = search needs
 
--- src/lib.rt:65:27
-add-dst : tie.Need-add-dst Inv-loop μ-loop
-add-dst c = omega arith
+-- src/lib.rt:154:44
+sub-copy-bytes : tie.Need-sub-copy-bytes
+sub-copy-bytes c = search needs
 
--- src/lib.rt:65:23
-shared-slice-read-dst : tie.Need-shared-slice-read-dst Inv-loop μ-loop
-shared-slice-read-dst c = omega arith
+-- src/lib.rt:154:5
+copy-bytes-requires : tie.Need-copy-bytes-requires
+copy-bytes-requires c κs = search needs
 
--- src/lib.rt:65:13
-add-dst-2 : tie.Need-add-dst-2 Inv-loop μ-loop
-add-dst-2 c = omega arith
+-- src/lib.rt:149:1
+same-length : tie.Need-same-length
+same-length c = search needs
 
--- src/lib.rt:65:9
-slice-write-dst : tie.Need-slice-write-dst Inv-loop μ-loop
-slice-write-dst c = omega arith
-
--- src/lib.rt:66:9
-add-j : tie.Need-add-j Inv-loop μ-loop
-add-j c = omega arith
-
--- src/lib.rt:64:5
-loop-less : tie.Need-loop-less Inv-loop μ-loop
-loop-less c = omega arith
-
--- src/lib.rt:64:5
-loop-again : tie.Need-loop-again Inv-loop μ-loop
-unfolding copied
-loop-again c =
-    let l = c .before .before .loop in
-    (omega arith, rw (l .inv .1) (puts-more _ _ _ (l .j)), simp length-set (l .inv .2))
-
--- src/lib.rt:59:1
-same-length : tie.Need-same-length Inv-loop μ-loop
-same-length c = c .before .loop .inv .2
-
--- src/lib.rt:59:1
-returns : tie.Need-returns Inv-loop μ-loop
+-- src/lib.rt:149:1
+returns : tie.Need-returns
 returns c =
-    let at-loop = c .before in
-    let done : at-loop .loop .j ≡ at-loop .before .args .n = omega arith in
-    rw (← done) (at-loop .loop .inv .1)
+    let c6 = c .before .before .before .before .before .before in
+    let a = c6 .before .before .before .before .args in
+    let k = c6 .copy-steps .result in
+    let e : k + (a .n - k) ≡ a .n = omega arith in
+    rw (c .before .before .copy-bytes .ensures, c6 .copy-steps .ensures .1)
+    (copied-add (a .dst .now) (a .at) (a .src .now) (a .from) k (a .n - k) ∙ ap (copied (a .dst .now) (a .at) (a .src .now) (a .from)) e)
 
 pub copy-spec : {M : Type 1} → statement M
 copy-spec =
     tie.close
     (tie.spec
-    Inv-loop
-    μ-loop
-    loop-holds
-    add-dst
-    shared-slice-read-dst
-    add-dst-2
-    slice-write-dst
-    add-j
-    loop-less
-    loop-again
+    copy-steps-requires
+    add-copy-bytes
+    add-copy-bytes-2
+    sub-copy-bytes
+    copy-bytes-requires
     same-length
     returns)
