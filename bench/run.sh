@@ -8,6 +8,9 @@
 #
 # Executed instructions are counted by the emulator where it runs the program (bench/insn.rs), by valgrind where
 # the machine does; without either, times in one run are compared. The first line says which.
+#
+# The emulator is the baseline processor that the library is compiled for, on which the C library's copies have vectors of
+# 16 bytes too (SFS_CPU: another one, as max,-erms with vectors of 32).
 set -euo pipefail
 
 here=$(cd "$(dirname "${BASH_SOURCE[0]}")" && pwd)
@@ -17,6 +20,7 @@ root=$(cd "$here/.." && pwd)
 
 read_options "--stand-in --host --time" "$@"
 use_tools
+if [ -n "$RUN" ]; then run=(qemu-x86_64 -cpu "${SFS_CPU:-qemu64}"); fi
 out=$root/target/bench/$place
 mkdir -p "$out/lib"
 # Measured as it is used: sums are not watched.

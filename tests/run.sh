@@ -18,8 +18,10 @@ if need_outside_tools; then
     run "$here/oracle/run.sh"
     SFS_CHECK="$here/program.sh sfs_check" run "$here/check/run.sh"
     run "$here/files/run.sh"
+    run "$here/dirs/run.sh"
+    run "$here/cli/run.sh"
 else
-    echo "outside: left out: oracle (the unchanged Rust, for x86-64), check (libsfs.a beside 01's rules), files (beside the Rust)"
+    echo "outside: left out: oracle (the unchanged Rust, for x86-64), check (libsfs.a beside 01's rules), files and dirs (beside the Rust), cli (the crate and the command)"
     [ "${ALLOW_MISSING:-no}" = yes ] || failed=1
 fi
 # The Rust's answers do not hang on the compiler: once more by the one of PATH, if it is another one.

@@ -1,6 +1,7 @@
 //! What the outside tests share: cards made from a seed, the rules of document 01, and memory to lend.
 
 pub mod cards;
+pub mod options;
 pub mod plan;
 pub mod rng;
 pub mod room;
