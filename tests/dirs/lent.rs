@@ -1,7 +1,6 @@
 //! The library's calls as a C program makes them, with memory that shows whatever else they touch.
 
 use crate::decide::Values;
-use crate::files_library::{sfs_resize, sfs_write};
 use crate::library::*;
 use kit::plan::ENTRY;
 use kit::room::Room;

@@ -14,10 +14,8 @@ mod edges;
 #[allow(dead_code)]
 #[path = "../files/expect.rs"]
 mod expect;
-#[allow(dead_code)]
-#[path = "../files/library.rs"]
-mod files_library;
 mod lent;
+#[path = "../files/library.rs"]
 mod library;
 #[allow(dead_code)]
 #[path = "../files/look.rs"]
