@@ -3,7 +3,7 @@
 use mathlib.Core.Path.{_≡_, sym, ap, _∙_, subst}
 use mathlib.Core.List.{List}
 use mathlib.Core.Logic.{_≢_}
-use Prim.Native.Nat.{ℕ, suc, _+_, _-_, _*_, _/_, _≤_, _<_, _^_}
+use Prim.Native.Nat.{ℕ, suc, _+_, _-_, _/_, _≤_, _<_, _^_}
 use native.Mathlib.Omega.{arith}
 use native.Mathlib.Decide.{decLt, ℕ-discrete}
 use Rattle.words.specs.Sums.{δ, sumTo}
@@ -15,8 +15,7 @@ use Rattle.card.specs.Whole.{Inode, Dir}
 use Rattle.card.proofs.Views.{kids-of-dir}
 use Rattle.card.proofs.Frames.{SameFile, size-is, kind-is, entry-is, name-is}
 use Rattle.entries.specs.Entries.{whereIs}
-use Rattle.entries.proofs.Lookup.{where-hit, where-least, where-is, where-none, where-not, where-only}
-use Rattle.theory.proofs.Edits.{Edited}
+use Rattle.entries.proofs.Lookup.{where-hit, where-least, where-is, where-none, where-not}
 use Rattle.theory.proofs.Entry.{EntryPut, entryOf-number, entryOf-name}
 use Rattle.theory.proofs.Append.{Appended}
 use Rattle.theory.proofs.Remove.{Removed}

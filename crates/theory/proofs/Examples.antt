@@ -28,7 +28,7 @@ use Rattle.theory.proofs.FreshBytes.{bytes-tested, name-tested}
 use Rattle.theory.proofs.FreshCard.{format-done}
 use Rattle.theory.proofs.FreeFrom.{byte-from, nth-from}
 use Rattle.theory.proofs.CreateTests.{Known, CreateTests, create-6, create-8, create-9, create-12, create-13, create-14, create-done, create-tests, create-refused}
-use Rattle.theory.proofs.UnlinkCard.{unlink-refused}
+use Rattle.theory.proofs.UnlinkTests.{unlink-refused}
 use Rattle.theory.proofs.ExamplesFresh.{Start, Given, start, root-listed, start-free, creates, create-4, root-size, root-links, third-name, unused-left}
 use Rattle.theory.proofs.ExamplesFile.{FileCard, free-at, known-file, file-card, too-long, no-room, sized-done, sized-card, sized-data, reads-none, reads-same}
 

@@ -2,7 +2,6 @@
 -- growth takes N's blocks, all free before, and what is written is what is read. Assumes nothing.
 use mathlib.Core.Path.{_≡_, refl, sym, ap, _∙_, subst}
 use mathlib.Core.Logic.{_≢_}
-use mathlib.Core.Bool.{Bool, true, false}
 use mathlib.Core.List.{List}
 use Prim.Native.Nat.{ℕ, _+_, _-_, _*_, _≤_, _<_, min, max}
 use native.Mathlib.Omega.{arith}
@@ -14,13 +13,12 @@ use Rattle.words.specs.Sums.{sumTo, cnt}
 use Rattle.words.proofs.Sums.{sumTo-add, sumTo-cong}
 use Rattle.layout.specs.Sizes.{blocksFor}
 use Rattle.layout.specs.Super.{blocks, unused}
-use Rattle.layout.specs.Inode.{size, kind, count, kindNo, headAt}
+use Rattle.layout.specs.Inode.{size, kind, count, headAt}
 use Rattle.layout.specs.Slots.{owned}
 use Rattle.layout.specs.declared.inode.FileType.{FileType}
-use Rattle.layout.specs.declared.inode.FileType.the-variants.{File, Dir, SymLink}
-use Rattle.freemap.specs.Bits.{mapBit, freeBits}
+use Rattle.freemap.specs.Bits.{mapBit}
 use Rattle.card.specs.View.{fileByte, owns}
-use Rattle.card.specs.Whole.{Reached, Sound, Tree, Whole}
+use Rattle.card.specs.Whole.{Reached, Sound, Whole}
 use Rattle.card.specs.Places.{Place, held, InUse}
 use Rattle.card.proofs.Cells.{held-owned, owned-held}
 use Rattle.card.proofs.Owners.{held-below, places-differ}
@@ -34,7 +32,7 @@ use Rattle.blocks.proofs.ReadBytes.{read-here, read-rest}
 use Rattle.blocks.proofs.Sound.{sound-readable}
 use Rattle.card.proofs.Isolation.{Balanced}
 use Rattle.files.specs.Requests.{longest, needs, filedNo, judged, resizeAnswer, writeAnswer, writeCard, readAnswer, readBuffer}
-use Rattle.files.specs.declared.Filed.the-variants.{Done, NotFile, InvalidParam, NoDeviceSpace}
+use Rattle.files.specs.declared.Filed.the-variants.{Done}
 use Rattle.theory.specs.Days.{Request, writing, named, after, OfBytes}
 use Rattle.theory.proofs.Requests.{OfKind, kinds, Filelike, filelike, judged-long, judged-full, judged-fine, resize-file, read-file, read-buffer}
 use Rattle.theory.proofs.Steps.{Step}

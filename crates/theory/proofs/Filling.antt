@@ -1,12 +1,10 @@
 -- Filling a part of a file's bytes on a sound card: the card stays sound, nothing but the file's data changes, and its bytes are those that were to come.
 -- Assumes nothing.
-use mathlib.Core.Path.{_≡_, sym, ap, _∙_, subst}
+use mathlib.Core.Path.{_≡_}
 use mathlib.Core.Bool.{Bool, true, false}
 use mathlib.Core.List.{List}
 use Prim.Native.Nat.{ℕ, _+_, _-_, _*_, _≤_, _<_}
-use native.Mathlib.Omega.{arith}
 use lib.Dec.{ltb}
-use lib.ListN.{length}
 use Rattle.words.specs.Words.{pick, word, Bytes}
 use Rattle.words.specs.Runs.{turns}
 use Rattle.words.specs.Sums.{cnt}

@@ -1,7 +1,7 @@
 -- A length change that is not refused, whole: it grows, it shrinks, or its block count stays. Assumes nothing.
-use mathlib.Core.Path.{_≡_, refl, sym}
+use mathlib.Core.Path.{_≡_}
 use mathlib.Core.List.{List}
-use Prim.Native.Nat.{ℕ, _+_, _≤_, _<_, _^_}
+use Prim.Native.Nat.{ℕ, _+_, _≤_, _<_}
 use native.Mathlib.Omega.{arith}
 use native.Mathlib.Decide.{decLt}
 use borrow.Author.Tests.{lt-ltb, le-ltb}
@@ -9,7 +9,7 @@ use Rattle.words.specs.Words.{Bytes}
 use Rattle.words.specs.Sums.{cnt}
 use Rattle.layout.specs.Sizes.{blocksFor}
 use Rattle.layout.specs.Super.{blocks, unused}
-use Rattle.layout.specs.Inode.{size, kind, count, kindNo}
+use Rattle.layout.specs.Inode.{kind, count, kindNo}
 use Rattle.layout.specs.Slots.{owned}
 use Rattle.layout.specs.declared.inode.FileType.{FileType}
 use Rattle.layout.proofs.InodeLaws.{inodeAt}

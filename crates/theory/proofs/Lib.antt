@@ -47,6 +47,8 @@ pub mod CreateCard
 pub mod LinkTests
 pub mod LinkCard
 pub mod DropCard
+pub mod UnlinkTests
+pub mod UnlinkSteps
 pub mod UnlinkCard
 pub mod Climb
 pub mod MoveDir

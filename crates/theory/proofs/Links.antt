@@ -8,7 +8,6 @@ use native.Mathlib.Omega.{arith}
 use native.Mathlib.Decide.{decLt}
 use borrow.Author.Tests.{lt-ltb, le-ltb}
 use lib.Dec.{ltb}
-use lib.ListN.{length}
 use Rattle.words.specs.Words.{pick, byte, num, Apart, Bytes}
 use Rattle.words.specs.Sums.{δ, sumTo, cnt}
 use Rattle.words.proofs.Numbers.{length-put, byte-out, num-out, num-same, bytes-put, put-put, put-num}

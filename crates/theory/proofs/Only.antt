@@ -1,17 +1,17 @@
 -- A change of one file alone, as every reader of the card sees it; and one after another. `img` is the card before, `out` the card after, l the inodes of
 -- both. Assumes nothing.
-use mathlib.Core.Path.{_≡_, refl, sym, ap, _∙_}
+use mathlib.Core.Path.{_≡_, refl, sym, _∙_}
 use mathlib.Core.Logic.{_≢_}
 use mathlib.Core.List.{List}
-use Prim.Native.Nat.{ℕ, _*_, _≤_, _<_}
+use Prim.Native.Nat.{ℕ, _<_}
 use lib.ListN.{length}
 use Rattle.words.specs.Words.{Bytes}
 use Rattle.words.specs.Sums.{cnt}
 use Rattle.layout.specs.Super.{blocks, maps}
-use Rattle.layout.specs.Inode.{kind, count}
+use Rattle.layout.specs.Inode.{kind}
 use Rattle.card.specs.Whole.{Sound, Tree, Whole}
 use Rattle.card.specs.Places.{Place, held, InUse}
-use Rattle.card.proofs.Frames.{SameFile, SameSlots, kind-is, count-is, file-refl, file-trans}
+use Rattle.card.proofs.Frames.{SameFile, kind-is, count-is, file-refl, file-trans}
 use Rattle.card.proofs.Kept.{blocks-is, maps-is, slots-few}
 use Rattle.card.proofs.Isolation.{WithinData, others-same, whole-one, whole-data-write, data-slots, data-others, data-super}
 use Rattle.theory.proofs.Resized.{Resized, held-is, in-use-is}

@@ -1,11 +1,11 @@
 -- What the definitions of the calls on files come to on a sound card, by the kind of the inode and by 01's tests. Assumes nothing.
-use mathlib.Core.Path.{_≡_, refl, sym, ap, _∙_}
+use mathlib.Core.Path.{_≡_, refl, ap, _∙_}
 use mathlib.Core.Logic.{_≢_}
-use mathlib.Core.Bool.{Bool, true, false}
+use mathlib.Core.Bool.{false}
 use mathlib.Core.List.{List}
 use Prim.Native.Nat.{ℕ, _+_, _-_, _≤_, _<_, min}
 use native.Mathlib.Omega.{arith}
-use native.Mathlib.Decide.{decLt, ℕ-discrete}
+use native.Mathlib.Decide.{ℕ-discrete}
 use borrow.Author.Tests.{lt-ltb, le-ltb}
 use lib.ListN.{length}
 use Rattle.layout.specs.Super.{unused}
@@ -13,7 +13,7 @@ use Rattle.layout.specs.Inode.{size, kind, count, kindNo, headAt, headBy, decod
 use Rattle.layout.specs.declared.inode.FileType.{FileType}
 use Rattle.layout.specs.declared.inode.FileType.the-variants.{File, Dir, SymLink}
 use Rattle.layout.specs.declared.inode.Head.{Head}
-use Rattle.layout.specs.declared.inode.Decoded.the-variants.{Good, BadKind}
+use Rattle.layout.specs.declared.inode.Decoded.the-variants.{Good}
 use Rattle.layout.proofs.InodeLaws.{inodeAt, headBy-kind}
 use Rattle.card.specs.Whole.{Inode}
 use Rattle.blocks.specs.Bytes.{filled, readInto}
@@ -34,7 +34,6 @@ use Rattle.files.specs.Requests.{
   readAnswer,
   readBuffer,
 }
-use Rattle.files.specs.declared.Filed.{Filed}
 use Rattle.files.specs.declared.Filed.the-variants.{Done, NotFile, InvalidParam, NoDeviceSpace}
 
 -- ---- kinds

@@ -1,6 +1,6 @@
 -- A length change on a sound card, whole: which blocks, which bytes. `img` is the card before, `out` the card after. Assumes nothing.
 use mathlib.Core.Path.{_≡_, refl, sym, ap, _∙_, subst}
-use mathlib.Core.Bool.{Bool, true, false}
+use mathlib.Core.Bool.{true}
 use mathlib.Core.List.{List, []}
 use Prim.Native.Nat.{ℕ, _+_, _-_, _*_, _/_, _%_, _≤_, _<_}
 use native.Mathlib.Omega.{arith}
@@ -8,22 +8,20 @@ use lib.ListN.{length}
 use Rattle.words.specs.Words.{byte, Bytes}
 use Rattle.words.specs.Sums.{cnt}
 use Rattle.layout.specs.Sizes.{blocksFor}
-use Rattle.layout.specs.Super.{blocks, maps}
+use Rattle.layout.specs.Super.{blocks}
 use Rattle.layout.specs.Inode.{size, kind, links, count}
-use Rattle.freemap.specs.Bits.{mapBit, freeBits}
 use Rattle.freemap.proofs.Map.{free-is}
-use Rattle.card.specs.View.{dataAt, fileByte, owns}
+use Rattle.card.specs.View.{fileByte}
 use Rattle.card.specs.Whole.{Sound}
 use Rattle.card.specs.Places.{Place, at-inode, at-indirect, at-double, at-second, at-data, held, InUse}
 use Rattle.card.proofs.Views.{fileByte-at}
-use Rattle.card.proofs.Frames.{SameBlock, SameSlots, size-is, kind-is, links-is, count-is, indirect-is, double-is, inode-is, second-is, data-is, owns-is, inode-room}
-use Rattle.card.proofs.Kept.{SameSuper, SameMap, Steady, magic-is, blocks-is, unused-is, maps-is, bit-of, slots-few}
+use Rattle.card.proofs.Frames.{SameSlots, size-is, kind-is, links-is, count-is, indirect-is, double-is, inode-is, second-is, data-is, owns-is, inode-room}
+use Rattle.card.proofs.Kept.{Steady, magic-is, blocks-is, unused-is, maps-is, bit-of, slots-few}
 use Rattle.card.proofs.Isolation.{Within, Balanced, WithinData, within-trans, sound-one, data-within, data-slots, data-super, data-map}
-use Rattle.blocks.specs.Bytes.{filled}
 use Rattle.blocks.proofs.Lengths.{length-filled}
 use Rattle.files.specs.Resizing.{cleaned}
 use Rattle.theory.proofs.Change.{Changed}
-use Rattle.theory.proofs.Filling.{bytes-filled, filled-within, filled-sound, filled-comes, filled-stays}
+use Rattle.theory.proofs.Filling.{bytes-filled, filled-within, filled-comes, filled-stays}
 
 -- what a change of inode n's length to len leaves of a card
 pub record Resized (img out : List ℕ) (n len : ℕ) : Type 0 where

@@ -1,14 +1,14 @@
 -- Return to start (mission, demand 3): a day along which no length falls below its starting one, and after which all are at it, leaves map, unused count,
 -- directories and block lists as they were; all along each byte below a file's starting length is as it was or as last written there. Assumes nothing.
-use mathlib.Core.Path.{_≡_, refl, sym, ap, _∙_, subst}
+use mathlib.Core.Path.{_≡_, refl, sym, ap, _∙_}
 use mathlib.Core.List.{List, [], _∷_, _++_}
-use Prim.Native.Nat.{ℕ, zero, suc, _+_, _*_, _/_, _%_, _^_, _≤_, _<_}
+use Prim.Native.Nat.{ℕ, zero, suc, _+_, _*_, _/_, _^_, _≤_, _<_}
 use native.Mathlib.Omega.{arith}
 use native.Mathlib.Decide.{decLt}
 use Rattle.words.specs.Words.{byte, Bytes}
-use Rattle.words.specs.Sums.{δ, sumTo, sumOn, cnt}
+use Rattle.words.specs.Sums.{δ, sumTo, cnt}
 use Rattle.words.proofs.Sums.{sumTo-cong, sumOn-cong}
-use Rattle.layout.specs.Super.{blocks, unused, maps}
+use Rattle.layout.specs.Super.{blocks, maps}
 use Rattle.layout.specs.Inode.{size, kind, count}
 use Rattle.layout.specs.Slots.{seconds}
 use Rattle.freemap.specs.Bits.{mapBit}
@@ -20,7 +20,7 @@ use Rattle.card.specs.Places.{Place, at-inode, at-indirect, at-double, at-secon
 use Rattle.card.proofs.Views.{none-below, some-from, ownIndirect, ownDouble, ownSeconds, ownData, owns-parts, uses-parts, seconds-mono}
 use Rattle.card.proofs.Frames.{SameFile, fileByte-is, file-refl, file-trans, inode-room}
 use Rattle.card.proofs.Kept.{slots-few}
-use Rattle.theory.specs.Days.{Request, after, afterAll, OfBytes, written, lastWritten, Day, over, then, Returned}
+use Rattle.theory.specs.Days.{Request, after, afterAll, lastWritten, Day, over, then, Returned}
 use Rattle.theory.proofs.Steps.{Step}
 use Rattle.theory.proofs.Writing.{step}
 

@@ -1,63 +1,27 @@
 -- One request on a sound card: what it leaves of the card, done or refused. Assumes nothing.
 use mathlib.Core.Path.{_≡_, refl, sym, ap, _∙_, subst}
 use mathlib.Core.Logic.{_≢_}
-use mathlib.Core.Bool.{Bool, true, false}
 use mathlib.Core.List.{List}
-use Prim.Native.Nat.{ℕ, _+_, _-_, _*_, _^_, _≤_, _<_}
+use Prim.Native.Nat.{ℕ, _-_, _<_}
 use native.Mathlib.Omega.{arith}
 use native.Mathlib.Decide.{decLt, ℕ-discrete}
-use borrow.Author.Tests.{eq-eqb, ne-eqb, lt-ltb, le-ltb}
-use lib.Dec.{eqb, ltb}
-use lib.ListN.{length}
-use Rattle.words.specs.Words.{pick, byte, Bytes}
+use Rattle.words.specs.Words.{Bytes}
 use Rattle.words.specs.Sums.{cnt}
-use Rattle.layout.specs.Sizes.{blocksFor}
 use Rattle.layout.specs.Super.{blocks, unused, maps}
-use Rattle.layout.specs.Inode.{size, kind, count, kindNo, headAt}
-use Rattle.layout.specs.Slots.{owned}
+use Rattle.layout.specs.Inode.{size, kind, count}
 use Rattle.layout.specs.declared.inode.FileType.{FileType}
 use Rattle.layout.specs.declared.inode.FileType.the-variants.{File, Dir, SymLink}
-use Rattle.layout.proofs.InodeLaws.{inodeAt}
 use Rattle.card.specs.View.{fileByte}
 use Rattle.card.specs.Whole.{Sound, Tree}
 use Rattle.card.specs.Places.{Place, held, InUse}
-use Rattle.card.proofs.Frames.{SameFile, size-is, kind-is, count-is, file-refl, fileByte-is, inode-room}
+use Rattle.card.proofs.Frames.{SameFile, size-is, kind-is, file-refl, fileByte-is, inode-room}
 use Rattle.card.proofs.Kept.{slots-few}
-use Rattle.card.proofs.Isolation.{data-slots}
-use Rattle.blocks.specs.Bytes.{filled}
-use Rattle.blocks.proofs.Lengths.{length-filled}
-use Rattle.files.specs.Resizing.{resized}
-use Rattle.files.specs.Requests.{longest, needs, endOf, reaching, filedNo, writeAnswer, writeCard, resizeCard, writeJudged}
-use Rattle.files.specs.declared.Filed.the-variants.{Done, NotFile, InvalidParam, NoDeviceSpace}
-use Rattle.theory.specs.Days.{Request, reading, writing, resizing, named, answered, after, OfBytes, written}
-use Rattle.theory.proofs.Resized.{Resized, held-is}
+use Rattle.files.specs.Requests.{longest, needs, resizeCard}
+use Rattle.theory.specs.Days.{Request, resizing, named, written}
+use Rattle.theory.proofs.Resized.{held-is}
 use Rattle.theory.proofs.Lengths.{length-change}
-use Rattle.theory.proofs.Filling.{bytes-filled, filled-within, filled-comes, filled-stays}
-use Rattle.theory.proofs.Only.{Only, only-refl, only-resized, only-data}
-use Rattle.theory.proofs.Requests.{
-  OfKind,
-  kinds,
-  Filelike,
-  filelike-not,
-  judged-long,
-  judged-full,
-  judged-fine,
-  write-inside,
-  write-past,
-  write-dir,
-  write-dir-card,
-  write-answer,
-  write-done,
-  write-file,
-  write-long,
-  write-full,
-  resize-dir-card,
-  resize-done,
-  resize-long,
-  resize-full,
-  reaching-no,
-  reaching-yes,
-}
+use Rattle.theory.proofs.Only.{Only, only-resized}
+use Rattle.theory.proofs.Requests.{OfKind, kinds, Filelike, filelike-not, resize-dir-card, resize-done, resize-long, resize-full}
 
 -- what a request leaves of a card
 pub record Step (l img out : List ℕ) (r : Request) : Type 0 where

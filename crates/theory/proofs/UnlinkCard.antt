@@ -2,289 +2,49 @@
 -- with none is gone and all its blocks are free, and no other inode changes. `img` is the card before, `out` the card after. Assumes nothing.
 use mathlib.Core.Path.{_≡_, refl, sym, ap, _∙_, subst}
 use mathlib.Core.Logic.{_≢_}
-use mathlib.Core.Bool.{Bool, true, false, false≢true}
 use mathlib.Core.List.{List}
 use Prim.Native.Nat.{ℕ, _+_, _-_, _*_, _≤_, _<_}
 use native.Mathlib.Omega.{arith}
 use native.Mathlib.Decide.{decLt, ℕ-discrete}
-use borrow.Author.Tests.{lt-ltb, le-ltb, eq-eqb, ne-eqb}
-use lib.Dec.{eqb, ltb}
+use borrow.Author.Tests.{eq-eqb, ne-eqb}
+use lib.Dec.{eqb}
 use Rattle.words.specs.Words.{pick, Bytes}
 use Rattle.words.specs.Sums.{δ, cnt, without}
 use Rattle.words.proofs.Numbers.{num-lt}
 use Rattle.words.proofs.Sums.{δ-same, δ-other, sumOn-without}
 use Rattle.layout.specs.Super.{blocks, unused}
-use Rattle.layout.specs.Inode.{size, kind, links, count, indirect, double, kindNo, headAt, decoded, withLinks, encoded}
+use Rattle.layout.specs.Inode.{size, kind, links, count, indirect, double, kindNo, headAt, withLinks, encoded}
 use Rattle.layout.specs.Slots.{owned}
 use Rattle.layout.specs.declared.inode.FileType.{FileType}
-use Rattle.layout.specs.declared.inode.FileType.the-variants.{File, Dir, SymLink}
-use Rattle.layout.specs.declared.inode.Head.{Head}
-use Rattle.layout.specs.declared.inode.Decoded.{Decoded}
-use Rattle.layout.specs.declared.inode.Decoded.the-variants.{Good, BadKind}
+use Rattle.layout.specs.declared.inode.FileType.the-variants.{Dir}
 use Rattle.layout.specs.declared.inode.DiskINode.{DiskINode}
 use Rattle.layout.proofs.InodeLaws.{inodeAt}
 use Rattle.freemap.specs.Bits.{mapBit}
 use Rattle.card.specs.View.{fileByte, entries, entry, name, kids, names}
 use Rattle.card.specs.Whole as Card
-use Rattle.card.specs.Whole.{Reached, down, Sound, Tree, Whole}
+use Rattle.card.specs.Whole.{Reached, Sound, Tree, Whole}
 use Rattle.card.specs.Places.{Place, at-indirect, at-double, held, InUse}
 use Rattle.card.proofs.Views.{kids-of-dir, owned-mono}
 use Rattle.card.proofs.Tree.{named-some}
-use Rattle.card.proofs.Frames.{SameFile, size-is, kind-is, links-is, count-is, fileByte-is, file-refl, file-trans}
-use Rattle.card.proofs.Kept.{Steady, slots-few}
+use Rattle.card.proofs.Frames.{SameFile, size-is, kind-is, links-is, count-is, file-refl}
+use Rattle.card.proofs.Kept.{Steady}
 use Rattle.card.proofs.Isolation.{others-same}
 use Rattle.entries.specs.Entries.{whereIs, removed}
-use Rattle.entries.specs.Names.{dot, dots, isDots}
 use Rattle.entries.proofs.Lookup.{where-hit}
-use Rattle.entries.proofs.Given.{dots-apart}
-use Rattle.acts.specs.Answers.{actedNo, ifDone, isDir, ofHead}
-use Rattle.acts.specs.Unlink.{namedBy, notEmpty, linksLeft, parentLess, dropped, unlinked, unlinkAnswer, unlinkCard}
-use Rattle.acts.specs.declared.Acted.{Acted}
-use Rattle.acts.specs.declared.Acted.the-variants.{
-  Done,
-  NotDir,
-  IsDir,
-  BadName,
-  EntryExist,
-  EntryNotFound,
-  DirNotEmpty,
-  InvalidParam,
-  TooManyLinks,
-  NoDeviceSpace,
-}
-use Rattle.theory.proofs.Requests.{OfKind, of-kind, kinds}
-use Rattle.theory.proofs.Files.{takes-exactly}
-use Rattle.theory.proofs.Resized.{held-is, in-use-is}
+use Rattle.acts.specs.Answers.{actedNo}
+use Rattle.acts.specs.Unlink.{namedBy, linksLeft, parentLess, dropped, unlinked, unlinkAnswer, unlinkCard}
+use Rattle.acts.specs.declared.Acted.the-variants.{Done}
+use Rattle.theory.proofs.Requests.{of-kind}
 use Rattle.theory.proofs.Counts.{subs-none}
 use Rattle.theory.proofs.TreeStep.{Parent}
 use Rattle.theory.proofs.TreeDrop.{tree-drop-name, tree-drop}
 use Rattle.theory.proofs.Edits.{steady-trans, edited-sound}
 use Rattle.theory.proofs.Links.{Relinked, links-only}
 use Rattle.theory.proofs.Remove.{Removed, inodeAt-same, remove-entry}
-use Rattle.theory.proofs.EntryCounts.{EntryLess, less-by, less-after, names-less, gone-less, parent-less}
+use Rattle.theory.proofs.EntryCounts.{EntryLess, names-less, gone-less, parent-less}
 use Rattle.theory.proofs.DropCard.{DroppedCard, drop-inode}
-
--- ---- what the tests say
-
--- a test that must hold, and one that must not, where the answer is no refusal
-needed : (t : Bool) (a r : Acted) → 0 < actedNo r → actedNo (pick t a r) ≡ 0 → (t ≡ true) × (actedNo a ≡ 0)
-needed true a r q e = (refl, e)
-needed false a r q e = absurd (omega arith)
-
-barred : (t : Bool) (r a : Acted) → 0 < actedNo r → actedNo (pick t r a) ≡ 0 → (t ≡ false) × (actedNo a ≡ 0)
-barred true r a q e = absurd (omega arith)
-barred false r a q e = (refl, e)
-
-is-dir : (k : FileType) → isDir k ≡ true → kindNo k ≡ 2
-is-dir File e = absurd (false≢true e)
-is-dir Dir e = refl
-is-dir SymLink e = absurd (false≢true e)
-
-dir-is : (k : FileType) → kindNo k ≡ 2 → isDir k ≡ true
-dir-is File e = absurd (omega arith)
-dir-is Dir e = refl
-dir-is SymLink e = absurd (omega arith)
-
-dir-not : (k : FileType) → kindNo k ≢ 2 → isDir k ≡ false
-dir-not File e = refl
-dir-not Dir e = absurd (e refl)
-dir-not SymLink e = refl
-
-below-of : (a b : ℕ) → ltb a b ≡ true → a < b
-below-of a b e = go (decLt a b)
-  where
-    go : Dec (a < b) → a < b
-    go (yes q) = q
-    go (no q) = absurd (false≢true (sym (le-ltb a b (omega arith)) ∙ e))
-
-above-of : (a b : ℕ) → ltb a b ≡ false → b ≤ a
-above-of a b e = go (decLt a b)
-  where
-    go : Dec (a < b) → b ≤ a
-    go (yes q) = absurd (false≢true (sym e ∙ lt-ltb a b q))
-    go (no q) = omega arith
-
--- what x names in p can be unlinked: it is of kind k
-pub record Target (img : List ℕ) (p : ℕ) (x : List ℕ) (k : FileType) : Type 0 where
-  pub parent : kind img p ≡ 2
-  pub past : 2 ≤ whereIs img p x
-  pub there : whereIs img p x < entries img p
-  pub reached : Reached img (namedBy img p x)
-  pub of : OfKind img (namedBy img p x) k
-  pub bare : kindNo k ≡ 2 → entries img (namedBy img p x) ≤ 2
-  pub apart : p ≢ namedBy img p x
-
-module _ {img : List ℕ} (w : Whole img) (p : ℕ) (r : Reached img p) (x : List ℕ) where
-  listed : (n : ℕ) → Reached img n → 0 < cnt n (w .inodes)
-  listed n q = omega (arith, w .tree .all n q)
-
-  -- the tests on p and x
-  tests : (k : FileType) → OfKind img p k → actedNo (unlinkAnswer img p x) ≡ 0
-      → (isDir k ≡ true) × (isDots x ≡ false) × (whereIs img p x < entries img p)
-      × (actedNo (ofHead (decoded img (namedBy img p x)) EntryNotFound (λ g. pick (notEmpty g) DirNotEmpty (Done 0))) ≡ 0)
-  unfolding unlinkAnswer
-  tests k o e =
-      let rest : Acted = ofHead (decoded img (namedBy img p x)) EntryNotFound (λ g. pick (notEmpty g) DirNotEmpty (Done 0)) in
-      let found : Acted = pick (ltb (whereIs img p x) (entries img p)) rest EntryNotFound in
-      let a = needed (isDir k) (pick (isDots x) IsDir found) NotDir (omega arith) (rw (o .decodes) at e) in
-      let b = barred (isDots x) IsDir found (omega arith) (a .1) in
-      let c = needed (ltb (whereIs img p x) (entries img p)) rest EntryNotFound (omega arith) (b .1) in
-      (a .0, b .0, below-of (whereIs img p x) (entries img p) (c .0), c .1)
-
-  -- a name that is neither "." nor ".." is of a child
-  past-dots : Card.Dir img p → isDots x ≡ false → whereIs img p x < entries img p → 2 ≤ whereIs img p x
-  past-dots d e q = go (ℕ-discrete (whereIs img p x) 0) (ℕ-discrete (whereIs img p x) 1)
-    where
-      a : (x ≡ dot → ⊥) × (x ≡ dots → ⊥)
-      a = dots-apart x e
-
-      go : Dec (whereIs img p x ≡ 0) → Dec (whereIs img p x ≡ 1) → 2 ≤ whereIs img p x
-      go (yes z) y = absurd (a .0 (sym (where-hit img p x q) ∙ ap (name img p) z ∙ d .dot))
-      go (no z) (yes y) = absurd (a .1 (sym (where-hit img p x q) ∙ ap (name img p) y ∙ d .dots))
-      go (no z) (no y) = omega arith
-
-  child : kind img p ≡ 2 → 2 ≤ whereIs img p x → whereIs img p x < entries img p → Reached img (namedBy img p x)
-  child k a q =
-      let e : 2 + (whereIs img p x - 2) ≡ whereIs img p x = omega arith in
-      down (namedBy img p x) (whereIs img p x - 2) r (omega (arith, kids-of-dir img p k)) (ap (entry img p) e)
-
-  -- a directory is empty
-  test-bare : (k : FileType) → OfKind img (namedBy img p x) k
-      → actedNo (ofHead (decoded img (namedBy img p x)) EntryNotFound (λ g. pick (notEmpty g) DirNotEmpty (Done 0))) ≡ 0
-      → kindNo k ≡ 2 → entries img (namedBy img p x) ≤ 2
-  test-bare k o e d =
-      above-of 2 (entries img (namedBy img p x))
-      (rw (dir-is k d) at (barred (notEmpty (headAt img (namedBy img p x) k)) DirNotEmpty (Done 0) (omega arith) (rw (o .decodes) at e) .0))
-
-  pub target : actedNo (unlinkAnswer img p x) ≡ 0 → (k : FileType) × Target img p x k
-  target e =
-      let o = kinds img p (w .sound .inode p (listed p r)) in
-      let t = tests (o .0) (o .1) e in
-      let d : kind img p ≡ 2 = o .1 .number ∙ is-dir (o .0) (t .0) in
-      let a = past-dots (w .tree .dir p r d) (t .1) (t .2) in
-      let c = child d a (t .2) in
-      let k = kinds img (namedBy img p x) (w .sound .inode (namedBy img p x) (listed (namedBy img p x) c)) in
-      let b = test-bare (k .0) (k .1) (t .3) in (
-        k .0,
-        record {
-          parent = d;
-          past = a;
-          there = t .2;
-          reached = c;
-          of = k .1;
-          bare = b;
-          apart = λ q. omega (arith, t .2, a, b (sym (k .1 .number) ∙ ap (kind img) (sym q) ∙ d), ap (entries img) q);
-        },
-      )
-
--- ---- a refusal changes nothing
-
-not-done : {A : Type 0} (a : Acted) → actedNo a ≢ 0 → (x r : A) → ifDone a x r ≡ r
-not-done (Done v) d x r = absurd (d refl)
-not-done NotDir d x r = refl
-not-done IsDir d x r = refl
-not-done BadName d x r = refl
-not-done EntryExist d x r = refl
-not-done EntryNotFound d x r = refl
-not-done DirNotEmpty d x r = refl
-not-done InvalidParam d x r = refl
-not-done TooManyLinks d x r = refl
-not-done NoDeviceSpace d x r = refl
-
-head-same : {A : Type 0} (d : Decoded) (r : A) (f : Head → A) → ((h : Head) → f h ≡ r) → ofHead d r f ≡ r
-head-same BadKind r f e = refl
-head-same (Good h) r f e = e h
-
-pub unlink-refused : (nb : ℕ) (img : List ℕ) (p : ℕ) (x : List ℕ) → actedNo (unlinkAnswer img p x) ≢ 0 → unlinkCard nb img p x ≡ img
-unfolding unlinkCard
-unlink-refused nb img p x d =
-    head-same (decoded img p) img _ (λ h. head-same (decoded img (namedBy img p x)) img _ (λ g. not-done (unlinkAnswer img p x) d _ img))
-
--- ---- the steps: entry j of p is gone, then inode c has other links, then nothing changes in what is listed
-
-record Cut (l img mid less : List ℕ) (p c v u j : ℕ) : Type 0 where
-  pub sound : Sound img l
-  pub p-in : 0 < cnt p l
-  pub c-in : 0 < cnt c l
-  pub apart : p ≢ c
-  pub removes : Removed img mid p v j
-  pub relinks : Relinked l mid less c u
-
-module _ {img mid less out l : List ℕ} {p c v u j : ℕ} (z : Cut l img mid less p c v u j)
-    (same : (m : ℕ) → 0 < cnt m l → SameFile less out m) where
-  mid-sound : Sound mid l
-  mid-sound = edited-sound (z .sound) (z .p-in) (z .removes .edited)
-
-  first : (m : ℕ) → 0 < cnt m l → m ≢ p → SameFile img mid m
-  first = others-same (z .sound) (z .p-in) (z .removes .edited .within)
-
-  then : (m : ℕ) → 0 < cnt m l → m ≢ c → SameFile mid out m
-  then m h d = file-trans (slots-few mid-sound m h) (z .relinks .others m h d) (same m h)
-
-  beside : (m : ℕ) → 0 < cnt m l → m ≢ p → m ≢ c → SameFile img out m
-  beside m h d e = file-trans (slots-few (z .sound) m h) (first m h d) (then m h e)
-
-  own : SameFile img mid c
-  own = first c (z .c-in) (λ q. z .apart (sym q))
-
-  parent-entries : EntryLess img out p j
-  parent-entries = less-after (less-by (z .removes)) (then p (z .p-in) (z .apart)) (mid-sound .inode p (z .p-in))
-
-  parent-links : links out p ≡ v
-  parent-links = links-is (then p (z .p-in) (z .apart) .slots .rec) ∙ z .removes .links-is
-
-  parent-shrinks : count out p ≤ count img p
-  parent-shrinks =
-      omega (
-        arith,
-        count-is (then p (z .p-in) (z .apart) .slots .rec),
-        mid-sound .inode p (z .p-in) .counted,
-        z .sound .inode p (z .p-in) .counted,
-        z .removes .size-is,
-      )
-
-  own-size : size out c ≡ size img c
-  own-size = size-is (same c (z .c-in) .slots .rec) ∙ z .relinks .size-is ∙ size-is (own .slots .rec)
-
-  own-kind : kind out c ≡ kind img c
-  own-kind = kind-is (same c (z .c-in) .slots .rec) ∙ z .relinks .kind-is ∙ kind-is (own .slots .rec)
-
-  own-links : links out c ≡ u
-  own-links = links-is (same c (z .c-in) .slots .rec) ∙ z .relinks .links-is
-
-  less-count : count less c ≡ count img c
-  less-count = z .relinks .count-is ∙ count-is (own .slots .rec)
-
-  own-count : count out c ≡ count img c
-  own-count = count-is (same c (z .c-in) .slots .rec) ∙ less-count
-
-  -- its places on the card with other links
-  less-held : (q : Place) → InUse img c q → held less c q ≡ held img c q
-  less-held q i =
-      z .relinks .places q (in-use-is mid img c (sym (count-is (own .slots .rec))) q i) ∙ held-is (own .slots) (slots-few (z .sound) c (z .c-in)) q i
-
-  less-use : (q : Place) → InUse img c q → InUse less c q
-  less-use q i = in-use-is less img c (sym less-count) q i
-
-  own-held : (q : Place) → InUse img c q → held out c q ≡ held img c q
-  own-held q i = held-is (same c (z .c-in) .slots) (slots-few (z .relinks .sound) c (z .c-in)) q (less-use q i) ∙ less-held q i
-
-  own-byte : (o : ℕ) → o < 4096 * count img c → fileByte out c o ≡ fileByte img c o
-  own-byte o q =
-      fileByte-is (same c (z .c-in)) o (omega (arith, less-count))
-      ∙ z .relinks .kept o (omega (arith, count-is (own .slots .rec)))
-      ∙ fileByte-is own o q
-
-  -- what p gave up is free
-  less-unused : unused less + owned (count out p) ≡ unused img + owned (count img p)
-  less-unused =
-      omega (
-        arith,
-        takes-exactly (z .sound) mid-sound (z .p-in) (z .removes .edited .balanced),
-        takes-exactly mid-sound (z .relinks .sound) (z .c-in) (z .relinks .balanced),
-        ap owned (z .relinks .count-is),
-        ap owned (count-is (then p (z .p-in) (z .apart) .slots .rec)),
-      )
+use Rattle.theory.proofs.UnlinkTests.{Target, dir-is, dir-not, target}
+use Rattle.theory.proofs.UnlinkSteps.{Cut, beside, less-held, less-unused, less-use, own-byte, own-count, own-held, own-kind, own-links, own-size, parent-entries, parent-links, parent-shrinks}
 
 -- ---- what is promised
 
