@@ -19,7 +19,7 @@ use Rattle.card.specs.Whole.{Reached, Whole}
 use Rattle.files.specs.Requests.{needs}
 use Rattle.files.proofs.Answers.{owned-below}
 use Rattle.acts.specs.Answers.{isDir, ofHead}
-use Rattle.acts.proofs.Ready.{counted-ready, count-ready, size-ready}
+use Rattle.acts.proofs.Ready.{size-ready}
 
 no-head : (h : Head) → Good h ≡ BadKind → ⊥
 no-head h e = let z : _≡_ {A = ℕ} 0 1 = cc in omega arith
@@ -63,14 +63,8 @@ module _ (img : List ℕ) (w : Whole img) (n : ℕ) (r : Reached img n) (h : Hea
   is : HeadIs img n h
   is = head-is img n h g
 
-  pub head-counted : h .blocks ≡ blocksFor (h .size)
-  head-counted = omega (arith, is .blocks-is, is .size-is, counted-ready img w n r)
-
   pub head-small : h .size + 260 ≤ 4294967295
   head-small = omega (arith, is .size-is, size-ready img w n r)
-
-  pub head-few : h .blocks ≤ 1048576
-  head-few = omega (arith, is .blocks-is, count-ready img w n r, w .sound .sized .many)
 
 -- what an entry takes is far from what a machine word holds
 pub needs-small : (b z : ℕ) → z + 260 ≤ 4294967295 → needs b (z + 260) ≤ 3000000

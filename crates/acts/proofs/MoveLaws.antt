@@ -8,7 +8,6 @@ use lib.Dec.{eqb, ltb}
 use lib.ListN.{length}
 use borrow.Author.Tests.{ltb-true, eqb-false, ne-eqb}
 use Rattle.words.specs.Words.{pick}
-use Rattle.layout.specs.Sizes.{blocksFor}
 use Rattle.layout.specs.Super.{blocks, unused}
 use Rattle.layout.specs.Inode.{count, decoded}
 use Rattle.layout.specs.declared.inode.Head.{Head}
@@ -25,19 +24,9 @@ use Rattle.acts.specs.Answers.{actedNo, actedValue, isDir, ofHead, fullL
 use Rattle.acts.specs.Unlink.{namedBy}
 use Rattle.acts.specs.Move.{climbs, moveRoom, moveAnswer, moved, moveCard}
 use Rattle.acts.specs.declared.Acted.{Acted}
-use Rattle.acts.specs.declared.Acted.the-variants.{
-  Done,
-  NotDir,
-  IsDir,
-  BadName,
-  EntryExist,
-  EntryNotFound,
-  InvalidParam,
-  TooManyLinks,
-  NoDeviceSpace,
-}
+use Rattle.acts.specs.declared.Acted.the-variants.{Done, NotDir, IsDir, BadName, EntryExist, EntryNotFound, InvalidParam, TooManyLinks, NoDeviceSpace}
 use Rattle.acts.proofs.Ready.{sizes-whole, below-ready}
-use Rattle.acts.proofs.Heads.{dirOf, dir-bad, dir-yes, head-counted, head-small}
+use Rattle.acts.proofs.Heads.{dirOf, dir-bad, dir-yes, head-small}
 use Rattle.acts.proofs.Dirs.{dir-kind, dir-least, entry-small, entry-inside, named-reached}
 use Rattle.acts.proofs.Refused.{Refused, if-refused, if-done, of-good, of-bad, of-same, held, failed, test-passed, test-held}
 use Rattle.acts.proofs.UnlinkLaws.{done-is, named-is}
@@ -228,8 +217,7 @@ module _
 
       -- what the act asks
       pub move-ready : nb ≡ blocks img → (g : Head) → decoded img c ≡ Good g → h .nlinks < 65536
-          → Sizes img nb × (p < nb) × (t < nb) × (c < nb) × (s .blocks ≡ blocksFor (s .size)) × (260 ≤ s .size) × (260 * k + 260 ≤ 4294967295)
-          × (h .blocks ≡ blocksFor (h .size))
+          → Sizes img nb × (p < nb) × (t < nb) × (c < nb) × (260 ≤ s .size) × (260 * k + 260 ≤ 4294967295)
           × (h .size + 260 ≤ 4294967295)
           × ((p ≡ t → ⊥) → isDir (g .«type_») ≡ true → h .nlinks < fullLinks)
           × (length new ≤ 255)
@@ -238,10 +226,8 @@ module _
         omega (arith, below-ready img w p r),
         omega (arith, below-ready img w t z),
         omega (arith, below-ready img w c move-reached),
-        head-counted img w p r s q,
         dir-least img w p r s q (moved-dir nb img p old t new s h q u _ done),
         entry-small img w p r k there,
-        head-counted img w t z h u,
         head-small img w t z h u,
         moved-few nb img p old t new s h q u _ done k c i j g e l,
         moved-name nb img p old t new s h q u _ done,

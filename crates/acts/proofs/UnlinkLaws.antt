@@ -7,7 +7,6 @@ use native.Mathlib.Omega.{arith}
 use lib.Dec.{ltb}
 use borrow.Author.Tests.{ltb-true}
 use Rattle.words.specs.Words.{pick}
-use Rattle.layout.specs.Sizes.{blocksFor}
 use Rattle.layout.specs.Super.{blocks}
 use Rattle.layout.specs.Inode.{count, decoded}
 use Rattle.layout.specs.declared.inode.Head.{Head}
@@ -22,20 +21,9 @@ use Rattle.entries.specs.Names.{isDots}
 use Rattle.acts.specs.Answers.{actedNo, actedValue, isDir, ofHead}
 use Rattle.acts.specs.Unlink.{namedBy, notEmpty, unlinkAnswer, unlinked, unlinkCard}
 use Rattle.acts.specs.declared.Acted.{Acted}
-use Rattle.acts.specs.declared.Acted.the-variants.{
-  Done,
-  NotDir,
-  IsDir,
-  BadName,
-  EntryExist,
-  EntryNotFound,
-  DirNotEmpty,
-  InvalidParam,
-  TooManyLinks,
-  NoDeviceSpace,
-}
+use Rattle.acts.specs.declared.Acted.the-variants.{Done, NotDir, IsDir, BadName, EntryExist, EntryNotFound, DirNotEmpty, InvalidParam, TooManyLinks, NoDeviceSpace}
 use Rattle.acts.proofs.Ready.{sizes-whole, below-ready}
-use Rattle.acts.proofs.Heads.{dirOf, dir-bad, dir-yes, head-counted, head-few}
+use Rattle.acts.proofs.Heads.{dirOf, dir-bad, dir-yes}
 use Rattle.acts.proofs.Dirs.{dir-kind, dir-least, entry-small, entry-inside, named-reached}
 use Rattle.acts.proofs.Refused.{Refused, if-refused, if-done, of-good, of-bad, of-same, held, failed, test-passed, test-held}
 
@@ -152,14 +140,11 @@ module _
       unlink-reached = named-reached img w p r k there (dir-kind img p h q (unlinked-dir img p x h q _ done)) c j
 
       -- what the act asks
-      pub unlink-ready : (nb : ℕ) → nb ≡ blocks img → (g : Head) → decoded img c ≡ Good g
-          → Sizes img nb × (p < nb) × (c < nb) × (h .blocks ≡ blocksFor (h .size)) × (260 ≤ h .size) × (260 * k + 260 ≤ 4294967295) × (g .blocks ≤ 1048576)
-      unlink-ready nb b g e = (
+      pub unlink-ready : (nb : ℕ) → nb ≡ blocks img → Sizes img nb × (p < nb) × (c < nb) × (260 ≤ h .size) × (260 * k + 260 ≤ 4294967295)
+      unlink-ready nb b = (
         subst (Sizes img) (sym b) (sizes-whole img w),
         omega (arith, below-ready img w p r),
         omega (arith, below-ready img w c unlink-reached),
-        head-counted img w p r h q,
         dir-least img w p r h q (unlinked-dir img p x h q _ done),
         entry-small img w p r k there,
-        head-few img w c unlink-reached g e,
       )

@@ -11,6 +11,7 @@ use Rattle.layout.specs.declared.inode.DiskINode.{DiskINode}
 use Rattle.freemap.specs.Free.{freed}
 use Rattle.card.specs.View.{entries, entry}
 use Rattle.blocks.specs.Taking.{shrunk}
+use Rattle.files.specs.Resizing.{fileBlocks}
 use Rattle.files.specs.Requests.{recordWith}
 use Rattle.entries.specs.Entries.{whereIs, removed}
 use Rattle.entries.specs.Names.{isDots}
@@ -46,7 +47,7 @@ parentLess h g = h .nlinks - pick (isDir (g .«type_»)) 1 0
 
 -- inode c and all it owns freed: e is its record
 unfoldable pub dropped : ℕ → ℕ → DiskINode → List ℕ → List ℕ
-dropped nb c e img = freed (shrunk nb c e 0 (e .head .blocks) img) c
+dropped nb c e img = freed (shrunk nb c e 0 (fileBlocks e) img) c
 
 -- c has one name less, which stood in entry k of p: d is the record of p, e that of c
 unfoldable pub unlinked : ℕ → ℕ → DiskINode → ℕ → ℕ → DiskINode → List ℕ → List ℕ

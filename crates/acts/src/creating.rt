@@ -5,7 +5,6 @@ ghost use mathlib.Core.Bool.{true, false};
 ghost use lib.Dec.{eqb};
 ghost use lib.ListN.{length};
 ghost use Rattle.words.specs.Words.{pick};
-ghost use Rattle.layout.specs.Sizes.{blocksFor};
 ghost use Rattle.layout.specs.Super.{blocks};
 ghost use Rattle.layout.specs.Inode.{decoded, encoded};
 ghost use Rattle.layout.specs.declared.inode.Decoded.the-variants.{Good};
@@ -65,7 +64,7 @@ fn fresh_inode(image: &[u8], nb: u32) -> u32
 
 // The inode's block, a directory's data block, and what the entry takes in a parent with head h.
 fn create_takes(h: Head, kind: u32) -> usize
-    requires { ⌜ (h .blocks ≤ 1048576) × (h .size + 260 ≤ 4294967295) ⌝ }
+    requires { ⌜ (h .size + 260 ≤ 4294967295) ⌝ }
     ensures { λ r. ⌜ r ≡ createTakes h kind ⌝ }
 {
     let k = judging::entry_needs(h);
@@ -87,7 +86,7 @@ fn links_full(h: Head, kind: u32) -> bool
 
 // 13 and 14.
 fn create_room(image: &[u8], nb: u32, h: Head, kind: u32) -> Acted
-    requires { ⌜ Sizes (now image) nb × (h .blocks ≤ 1048576) × (h .size + 260 ≤ 4294967295) ⌝ }
+    requires { ⌜ Sizes (now image) nb × (h .size + 260 ≤ 4294967295) ⌝ }
     ensures { λ r. ⌜ r ≡ createRoom nb (now (image .entry)) h kind ⌝ }
 {
     if links_full(h, kind) {
@@ -131,7 +130,7 @@ pub fn judge_create(image: &[u8], nb: u32, p: INodeId, x: &[u8], kind: u32) -> A
 
 // A file or a symbolic link, in directory p with record d.
 fn make_file(image: &mut [u8], nb: u32, p: INodeId, d: DiskINode, x: &[u8], t: FileType)
-    requires { ⌜ Sizes (now image) nb × (p .0 < nb) × (d .head .blocks ≡ blocksFor (d .head .size)) × (d .head .size + 260 ≤ 4294967295) × (length (now x) ≤ 255) ⌝ }
+    requires { ⌜ Sizes (now image) nb × (p .0 < nb) × (d .head .size + 260 ≤ 4294967295) × (length (now x) ≤ 255) ⌝ }
     ensures { λ _. ⌜ now (image .exit) ≡ madeFile nb (p .0) d (now (x .entry)) t (now (image .entry)) ⌝ }
 {
     let b = growing::take_next(image, nb, BlockId(0));
@@ -167,7 +166,7 @@ fn make_empty(image: &mut [u8], nb: u32, i: INodeId, p: INodeId)
 
 // A directory, in directory p with record d, whose links rise.
 fn make_dir(image: &mut [u8], nb: u32, p: INodeId, d: DiskINode, x: &[u8])
-    requires { ⌜ Sizes (now image) nb × (p .0 < nb) × (d .head .blocks ≡ blocksFor (d .head .size)) × (d .head .size + 260 ≤ 4294967295) × (length (now x) ≤ 255) × (d .head .nlinks < fullLinks) ⌝ }
+    requires { ⌜ Sizes (now image) nb × (p .0 < nb) × (d .head .size + 260 ≤ 4294967295) × (length (now x) ≤ 255) × (d .head .nlinks < fullLinks) ⌝ }
     ensures { λ _. ⌜ now (image .exit) ≡ madeDir nb (p .0) d (now (x .entry)) (now (image .entry)) ⌝ }
 {
     let b = growing::take_next(image, nb, BlockId(0));
@@ -179,7 +178,7 @@ fn make_dir(image: &mut [u8], nb: u32, p: INodeId, d: DiskINode, x: &[u8])
 
 // What create does.
 fn make(image: &mut [u8], nb: u32, p: INodeId, d: DiskINode, x: &[u8], kind: u32)
-    requires { ⌜ Sizes (now image) nb × (p .0 < nb) × (d .head .blocks ≡ blocksFor (d .head .size)) × (d .head .size + 260 ≤ 4294967295) × (length (now x) ≤ 255) × (kind ≡ 2 → d .head .nlinks < fullLinks) ⌝ }
+    requires { ⌜ Sizes (now image) nb × (p .0 < nb) × (d .head .size + 260 ≤ 4294967295) × (length (now x) ≤ 255) × (kind ≡ 2 → d .head .nlinks < fullLinks) ⌝ }
     ensures { λ _. ⌜ now (image .exit) ≡ made nb (p .0) d (now (x .entry)) kind (now (image .entry)) ⌝ }
 {
     if kind == 2 {

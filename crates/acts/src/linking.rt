@@ -3,7 +3,6 @@ ghost use mathlib.Core.Path.{_≡_};
 ghost use Prim.Native.Nat.{_+_, _≤_, _<_};
 ghost use mathlib.Core.Bool.{true};
 ghost use lib.ListN.{length};
-ghost use Rattle.layout.specs.Sizes.{blocksFor};
 ghost use Rattle.layout.specs.Super.{blocks};
 ghost use Rattle.layout.specs.Inode.{decoded};
 ghost use Rattle.layout.specs.declared.inode.Decoded.the-variants.{Good};
@@ -26,7 +25,7 @@ use layout::superblock;
 
 // 7, 13 and 14, for a directory with head h and an inode with head g.
 fn link_room(image: &[u8], h: Head, g: Head) -> Acted
-    requires { ⌜ (48 ≤ length (now image)) × (h .blocks ≤ 1048576) × (h .size + 260 ≤ 4294967295) ⌝ }
+    requires { ⌜ (48 ≤ length (now image)) × (h .size + 260 ≤ 4294967295) ⌝ }
     ensures { λ r. ⌜ r ≡ linkRoom (now (image .entry)) h g ⌝ }
 {
     let kind = g.type_;
@@ -74,7 +73,7 @@ pub fn judge_link(image: &[u8], p: INodeId, x: &[u8], c: INodeId) -> Acted
 
 // What link does: inode c with record e, whose links rise, is named x in directory p with record d.
 fn put_link(image: &mut [u8], nb: u32, p: INodeId, d: DiskINode, x: &[u8], c: INodeId, e: DiskINode)
-    requires { ⌜ Sizes (now image) nb × (p .0 < nb) × (c .0 < nb) × (d .head .blocks ≡ blocksFor (d .head .size)) × (d .head .size + 260 ≤ 4294967295) × (length (now x) ≤ 255) × (e .head .nlinks < fullLinks) ⌝ }
+    requires { ⌜ Sizes (now image) nb × (p .0 < nb) × (c .0 < nb) × (d .head .size + 260 ≤ 4294967295) × (length (now x) ≤ 255) × (e .head .nlinks < fullLinks) ⌝ }
     ensures { λ _. ⌜ now (image .exit) ≡ linked nb (p .0) d (now (x .entry)) (c .0) e (now (image .entry)) ⌝ }
 {
     let f = entry::entry_of(c, x);

@@ -5,7 +5,6 @@ ghost use Prim.Native.Nat.{_+_, _*_, _≤_, _<_};
 ghost use lib.Dec.{eqb, ltb};
 ghost use lib.ListN.{length};
 ghost use Rattle.words.specs.Words.{pick};
-ghost use Rattle.layout.specs.Sizes.{blocksFor};
 ghost use Rattle.layout.specs.Super.{blocks, unused};
 ghost use Rattle.layout.specs.Inode.{kind, decoded};
 ghost use Rattle.layout.specs.declared.inode.Decoded.the-variants.{Good};
@@ -57,7 +56,7 @@ fn climbs_to(image: &[u8], nb: u32, c: INodeId, t: INodeId) -> bool
 
 // 14: room for one entry more in a target with head h, while the old one is still there.
 fn entry_room(image: &[u8], h: Head) -> Acted
-    requires { ⌜ (48 ≤ length (now image)) × (h .blocks ≤ 1048576) × (h .size + 260 ≤ 4294967295) ⌝ }
+    requires { ⌜ (48 ≤ length (now image)) × (h .size + 260 ≤ 4294967295) ⌝ }
     ensures { λ r. ⌜ r ≡ pick (ltb (unused (now (image .entry))) (needs (h .blocks) (h .size + 260))) NoDeviceSpace (Done 0) ⌝ }
 {
     let u = superblock::unused_blocks(image);
@@ -70,7 +69,7 @@ fn entry_room(image: &[u8], h: Head) -> Acted
 
 // 12, 13 and 14, of directory c.
 fn dir_room(image: &[u8], nb: u32, c: INodeId, t: INodeId, h: Head) -> Acted
-    requires { ⌜ Whole (now image) × Reached (now image) (t .0) × (kind (now image) (t .0) ≡ 2) × (48 ≤ length (now image)) × (h .blocks ≤ 1048576) × (h .size + 260 ≤ 4294967295) ⌝ }
+    requires { ⌜ Whole (now image) × Reached (now image) (t .0) × (kind (now image) (t .0) ≡ 2) × (48 ≤ length (now image)) × (h .size + 260 ≤ 4294967295) ⌝ }
     ensures { λ r. ⌜ r ≡ pick (climbs (now (image .entry)) (c .0) (t .0) nb) InvalidParam (pick (eqb (h .nlinks) fullLinks) TooManyLinks (pick (ltb (unused (now (image .entry))) (needs (h .blocks) (h .size + 260))) NoDeviceSpace (Done 0))) ⌝ }
 {
     if climbs_to(image, nb, c, t) {
@@ -84,7 +83,7 @@ fn dir_room(image: &[u8], nb: u32, c: INodeId, t: INodeId, h: Head) -> Acted
 
 // 12, 13 and 14, of inode c and a target t with head h.
 fn move_room(image: &[u8], nb: u32, c: INodeId, g: Head, t: INodeId, h: Head) -> Acted
-    requires { ⌜ Whole (now image) × Reached (now image) (t .0) × (kind (now image) (t .0) ≡ 2) × (48 ≤ length (now image)) × (h .blocks ≤ 1048576) × (h .size + 260 ≤ 4294967295) ⌝ }
+    requires { ⌜ Whole (now image) × Reached (now image) (t .0) × (kind (now image) (t .0) ≡ 2) × (48 ≤ length (now image)) × (h .size + 260 ≤ 4294967295) ⌝ }
     ensures { λ r. ⌜ r ≡ moveRoom nb (now (image .entry)) (c .0) g (t .0) h ⌝ }
 {
     let kind = g.type_;
@@ -207,7 +206,7 @@ fn move_file(
     f: DiskINode,
     new: &[u8],
 )
-    requires { ⌜ Sizes (now image) nb × (p .0 < nb) × (t .0 < nb) × (d .head .blocks ≡ blocksFor (d .head .size)) × (260 ≤ d .head .size) × (260 * k + 260 ≤ 4294967295) × (f .head .blocks ≡ blocksFor (f .head .size)) × (f .head .size + 260 ≤ 4294967295) × (length (now new) ≤ 255) ⌝ }
+    requires { ⌜ Sizes (now image) nb × (p .0 < nb) × (t .0 < nb) × (260 ≤ d .head .size) × (260 * k + 260 ≤ 4294967295) × (f .head .size + 260 ≤ 4294967295) × (length (now new) ≤ 255) ⌝ }
     ensures { λ _. ⌜ now (image .exit) ≡ movedFile nb (p .0) d k (c .0) (t .0) f (now (new .entry)) (now (image .entry)) ⌝ }
 {
     let e = entry::entry_of(c, new);
@@ -227,7 +226,7 @@ fn move_dir(
     f: DiskINode,
     new: &[u8],
 )
-    requires { ⌜ Sizes (now image) nb × (p .0 < nb) × (t .0 < nb) × (c .0 < nb) × (d .head .blocks ≡ blocksFor (d .head .size)) × (260 ≤ d .head .size) × (260 * k + 260 ≤ 4294967295) × (f .head .blocks ≡ blocksFor (f .head .size)) × (f .head .size + 260 ≤ 4294967295) × (f .head .nlinks < 65535) × (length (now new) ≤ 255) ⌝ }
+    requires { ⌜ Sizes (now image) nb × (p .0 < nb) × (t .0 < nb) × (c .0 < nb) × (260 ≤ d .head .size) × (260 * k + 260 ≤ 4294967295) × (f .head .size + 260 ≤ 4294967295) × (f .head .nlinks < 65535) × (length (now new) ≤ 255) ⌝ }
     ensures { λ _. ⌜ now (image .exit) ≡ movedDir nb (p .0) d k (c .0) (t .0) f (now (new .entry)) (now (image .entry)) ⌝ }
 {
     let l = unlinking::less(d.head.nlinks, 1);
@@ -249,7 +248,7 @@ fn move_to(
     h: Head,
     new: &[u8],
 )
-    requires { ⌜ Sizes (now image) nb × (p .0 < nb) × (t .0 < nb) × (c .0 < nb) × (s .blocks ≡ blocksFor (s .size)) × (260 ≤ s .size) × (260 * k + 260 ≤ 4294967295) × (h .blocks ≡ blocksFor (h .size)) × (h .size + 260 ≤ 4294967295) × (isDir (g .«type_») ≡ true → h .nlinks < fullLinks) × (length (now new) ≤ 255) ⌝ }
+    requires { ⌜ Sizes (now image) nb × (p .0 < nb) × (t .0 < nb) × (c .0 < nb) × (260 ≤ s .size) × (260 * k + 260 ≤ 4294967295) × (h .size + 260 ≤ 4294967295) × (isDir (g .«type_») ≡ true → h .nlinks < fullLinks) × (length (now new) ≤ 255) ⌝ }
     ensures { λ _. ⌜ now (image .exit) ≡ pick (isDir (g .«type_»)) (movedDir nb (p .0) (recordWith (now (image .entry)) (p .0) s) k (c .0) (t .0) (recordWith (now (image .entry)) (t .0) h) (now (new .entry)) (now (image .entry))) (movedFile nb (p .0) (recordWith (now (image .entry)) (p .0) s) k (c .0) (t .0) (recordWith (now (image .entry)) (t .0) h) (now (new .entry)) (now (image .entry))) ⌝ }
 {
     let d = requests::record_with(image, p, s);
@@ -275,7 +274,7 @@ fn move_at(
     h: Head,
     new: &[u8],
 )
-    requires { ⌜ Sizes (now image) nb × (p .0 < nb) × (t .0 < nb) × (c .0 < nb) × (s .blocks ≡ blocksFor (s .size)) × (260 ≤ s .size) × (260 * k + 260 ≤ 4294967295) × (h .blocks ≡ blocksFor (h .size)) × (h .size + 260 ≤ 4294967295) × ((p .0 ≡ t .0 → ⊥) → isDir (g .«type_») ≡ true → h .nlinks < fullLinks) × (length (now new) ≤ 255) ⌝ }
+    requires { ⌜ Sizes (now image) nb × (p .0 < nb) × (t .0 < nb) × (c .0 < nb) × (260 ≤ s .size) × (260 * k + 260 ≤ 4294967295) × (h .size + 260 ≤ 4294967295) × ((p .0 ≡ t .0 → ⊥) → isDir (g .«type_») ≡ true → h .nlinks < fullLinks) × (length (now new) ≤ 255) ⌝ }
     ensures { λ _. ⌜ now (image .exit) ≡ moved nb (p .0) s k (c .0) g (t .0) h (now (new .entry)) (now (image .entry)) ⌝ }
 {
     if p.0 != t.0 {

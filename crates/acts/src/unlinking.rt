@@ -3,7 +3,6 @@ ghost use mathlib.Core.Path.{_≡_};
 ghost use mathlib.Core.Bool.{true};
 ghost use Prim.Native.Nat.{_+_, _-_, _*_, _≤_, _<_};
 ghost use lib.ListN.{length};
-ghost use Rattle.layout.specs.Sizes.{blocksFor};
 ghost use Rattle.layout.specs.Super.{blocks};
 ghost use Rattle.layout.specs.Inode.{decoded, encoded, withLinks};
 ghost use Rattle.layout.specs.declared.inode.Decoded.the-variants.{Good};
@@ -20,6 +19,7 @@ use blocks::shrinking;
 use entries::editing;
 use entries::finding;
 use files::requests;
+use files::resizing;
 use freemap;
 use layout::BlockId;
 use layout::INodeId;
@@ -109,10 +109,11 @@ fn parent_less(h: Head, g: Head) -> u16
 
 // Inode c and all it owns freed.
 fn drop_inode(image: &mut [u8], nb: u32, c: INodeId, e: DiskINode)
-    requires { ⌜ Sizes (now image) nb × (c .0 < nb) × (e .head .blocks ≤ 1048576) ⌝ }
+    requires { ⌜ Sizes (now image) nb × (c .0 < nb) ⌝ }
     ensures { λ _. ⌜ now (image .exit) ≡ dropped nb (c .0) e (now (image .entry)) ⌝ }
 {
-    shrinking::shrink(image, nb, c, e, 0, e.head.blocks as usize);
+    let a = resizing::file_blocks(e);
+    shrinking::shrink(image, nb, c, e, 0, a);
     freemap::free_block(image, BlockId(c.0));
 }
 
@@ -126,7 +127,7 @@ fn take_name(
     c: INodeId,
     e: DiskINode,
 )
-    requires { ⌜ Sizes (now image) nb × (p .0 < nb) × (c .0 < nb) × (d .head .blocks ≡ blocksFor (d .head .size)) × (260 ≤ d .head .size) × (260 * k + 260 ≤ 4294967295) ⌝ }
+    requires { ⌜ Sizes (now image) nb × (p .0 < nb) × (c .0 < nb) × (260 ≤ d .head .size) × (260 * k + 260 ≤ 4294967295) ⌝ }
     ensures { λ _. ⌜ now (image .exit) ≡ encoded (removed nb (p .0) (withLinks d (parentLess (d .head) (e .head))) k (now (image .entry))) (c .0) (withLinks e (linksLeft (e .head))) ⌝ }
 {
     let l = parent_less(d.head, e.head);
@@ -145,7 +146,7 @@ fn unlink_at(
     c: INodeId,
     e: DiskINode,
 )
-    requires { ⌜ Sizes (now image) nb × (p .0 < nb) × (c .0 < nb) × (d .head .blocks ≡ blocksFor (d .head .size)) × (260 ≤ d .head .size) × (260 * k + 260 ≤ 4294967295) × (e .head .blocks ≤ 1048576) ⌝ }
+    requires { ⌜ Sizes (now image) nb × (p .0 < nb) × (c .0 < nb) × (260 ≤ d .head .size) × (260 * k + 260 ≤ 4294967295) ⌝ }
     ensures { λ _. ⌜ now (image .exit) ≡ unlinked nb (p .0) d k (c .0) e (now (image .entry)) ⌝ }
 {
     take_name(image, nb, p, d, k, c, e);

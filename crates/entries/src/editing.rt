@@ -1,7 +1,6 @@
 // Entries read, written, appended and removed, on a card of nb blocks: d is the record of directory n as the card has it.
 ghost use mathlib.Core.Path.{_≡_};
 ghost use Prim.Native.Nat.{_+_, _*_, _≤_, _<_};
-ghost use Rattle.layout.specs.Sizes.{blocksFor};
 ghost use Rattle.blocks.specs.Steps.{Sizes};
 ghost use Rattle.entries.specs.Entries.{entryAt, entryPut, appended, removed};
 use blocks::filling;
@@ -33,7 +32,7 @@ pub fn write_entry(image: &mut [u8], nb: u32, n: INodeId, k: usize, e: &[u8; 260
 
 // One entry more, after the last.
 pub fn append_direntry(image: &mut [u8], nb: u32, n: INodeId, d: DiskINode, e: &[u8; 260])
-    requires { ⌜ Sizes (now image) nb × (n .0 < nb) × (d .head .blocks ≡ blocksFor (d .head .size)) × (d .head .size + 260 ≤ 4294967295) ⌝ }
+    requires { ⌜ Sizes (now image) nb × (n .0 < nb) × (d .head .size + 260 ≤ 4294967295) ⌝ }
     ensures { λ _. ⌜ now (image .exit) ≡ appended nb (n .0) d (now (e .entry)) (now (image .entry)) ⌝ }
 {
     let z = d.head.size;
@@ -43,7 +42,7 @@ pub fn append_direntry(image: &mut [u8], nb: u32, n: INodeId, d: DiskINode, e: &
 
 // Entry k goes: the last one takes its place.
 pub fn remove_direntry(image: &mut [u8], nb: u32, n: INodeId, d: DiskINode, k: usize)
-    requires { ⌜ Sizes (now image) nb × (n .0 < nb) × (d .head .blocks ≡ blocksFor (d .head .size)) × (260 ≤ d .head .size) × (260 * k + 260 ≤ 4294967295) ⌝ }
+    requires { ⌜ Sizes (now image) nb × (n .0 < nb) × (260 ≤ d .head .size) × (260 * k + 260 ≤ 4294967295) ⌝ }
     ensures { λ _. ⌜ now (image .exit) ≡ removed nb (n .0) d k (now (image .entry)) ⌝ }
 {
     let z = d.head.size;

@@ -1,17 +1,15 @@
 -- The tests before a call, case by case, and the head of a file. Assumes nothing.
 use mathlib.Core.Path.{_≡_, refl, sym, ap, _∙_}
-use mathlib.Core.Bool.{Bool, true, false}
-use mathlib.Core.List.{List, [], _∷_}
+use mathlib.Core.List.{[], _∷_}
 use types.Run.{OneOf, miss}
 use denote.Enum.Declared.{tagOf}
 use Prim.Native.Nat.{ℕ, _+_, _-_, _*_, _/_, _≤_, _<_}
 use native.Mathlib.Omega.{arith}
 use native.Mathlib.Decide.{decLt}
-use lib.Dec.{ltb, eqb}
-use Rattle.words.specs.Words.{pick}
+use lib.Dec.{ltb}
 use Rattle.layout.specs.Sizes.{blocksFor}
 use Rattle.layout.specs.Slots.{owned}
-use Rattle.layout.specs.Inode.{size, count, kind, headAt, headBy, decoded}
+use Rattle.layout.specs.Inode.{size}
 use Rattle.layout.specs.declared.inode.FileType.{FileType}
 use Rattle.layout.specs.declared.inode.FileType.the-variants.{File, Dir, SymLink}
 use Rattle.layout.specs.declared.inode.Head.{Head}
@@ -112,32 +110,3 @@ module _ {A : Type 0} (r : A) (f : Head → A) where
   pub file-bad : (d : Decoded) → headOf d ≡ BadKind → byFile d r f ≡ r
   file-bad (Good h) e = kind-bad (h .«type_») h e
   file-bad BadKind e = refl
-
--- a head that is answered is the card's
-kind-same : (k : FileType) (h g : Head) → byKind k BadKind (Good h) ≡ Good g → Good h ≡ Good g
-kind-same File h g e = e
-kind-same Dir h g e = absurd (no-head g (sym e))
-kind-same SymLink h g e = e
-
-pub file-same : (d : Decoded) (g : Head) → headOf d ≡ Good g → d ≡ Good g
-file-same (Good h) g e = kind-same (h .«type_») h g e
-file-same BadKind g e = e
-
-module _ (img : List ℕ) (n : ℕ) (h : Head) where
-  of-kind : (t : FileType) → Good (headAt img n t) ≡ Good h → (h .blocks ≡ count img n) × (h .size ≡ size img n)
-  of-kind t e = let q : h ≡ headAt img n t = cc in (ap (λ (x : Head). x .blocks) q, ap (λ (x : Head). x .size) q)
-
-  of-tests : (a b c : Bool)
-      → pick a (Good (headAt img n File)) (pick b (Good (headAt img n Dir)) (pick c (Good (headAt img n SymLink)) BadKind)) ≡ Good h
-      → (h .blocks ≡ count img n) × (h .size ≡ size img n)
-  of-tests true b c e = of-kind File e
-  of-tests false true c e = of-kind Dir e
-  of-tests false false true e = of-kind SymLink e
-  of-tests false false false e = absurd (no-head h (sym e))
-
-  -- and has the blocks of its size, where the record has
-  pub head-counted : headOf (decoded img n) ≡ Good h → count img n ≡ blocksFor (size img n) → h .blocks ≡ blocksFor (h .size)
-  unfolding headBy
-  head-counted e c =
-      let f = of-tests (eqb (kind img n) 1) (eqb (kind img n) 2) (eqb (kind img n) 3) (file-same (decoded img n) h e) in
-      rw (f .0, f .1) c

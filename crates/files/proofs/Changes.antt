@@ -1,7 +1,7 @@
 -- What the code has after the steps of a length change, said as `Resizing`. Assumes nothing.
-use mathlib.Core.Path.{_≡_, _∙_}
+use mathlib.Core.Path.{_≡_, ap, _∙_}
 use mathlib.Core.List.{List}
-use Prim.Native.Nat.{ℕ, _≤_, _<_}
+use Prim.Native.Nat.{ℕ, _≤_, _<_, min}
 use native.Mathlib.Omega.{arith}
 use Rattle.layout.specs.Sizes.{blocksFor}
 use Rattle.layout.specs.Inode.{withSize, encoded}
@@ -10,7 +10,7 @@ use Rattle.blocks.specs.declared.growing.Took.{Took}
 use Rattle.blocks.specs.Taking.{grown, shrunk, lessIndirect, lessDouble}
 use Rattle.blocks.specs.Steps.{growingAt, Grew}
 use Rattle.blocks.proofs.Picks.{pick-yes, pick-no}
-use Rattle.files.specs.Resizing.{ofLength, lengthened, cleaned, longer, shorter, resized}
+use Rattle.files.specs.Resizing.{ofLength, lengthened, cleaned, longer, mostBlocks, fileBlocks, shorter, resized}
 use Rattle.files.specs.Requests.{reaching}
 
 -- the record from which growth begins
@@ -24,15 +24,32 @@ module _ (nb n : ℕ) (d : DiskINode) (len : ℕ) (img : List ℕ) where
   unfolding lengthened
   lengthened-by b i₁ i₂ r e p g q s = rw (s, q, g .img-is, g .inode-is, p)
 
-  pub longer-by : (i₁ i₂ : List ℕ) → i₁ ≡ lengthened nb n d len img → i₂ ≡ cleaned nb n (d .head .size) len i₁ → i₂ ≡ longer nb n d len img
+  pub longer-by : (i₁ i₂ : List ℕ) → i₁ ≡ lengthened nb n d len img → i₂ ≡ cleaned nb n (min (d .head .size) len) len i₁ → i₂ ≡ longer nb n d len img
   unfolding longer
   longer-by i₁ i₂ p q = rw (q, p)
 
-  pub shorter-by : (b : ℕ) (i₁ i₂ : List ℕ) (e f g : DiskINode) → b ≡ blocksFor len → i₁ ≡ shrunk nb n d b (d .head .blocks) img
-      → e ≡ lessIndirect b (d .head .blocks) d → f ≡ lessDouble b (d .head .blocks) e → g ≡ ofLength f len → i₂ ≡ encoded i₁ n g
-      → i₂ ≡ shorter nb n d len img
+  pub shorter-by : (a b : ℕ) (i₁ i₂ : List ℕ) (e f g : DiskINode) → a ≡ fileBlocks d → b ≡ blocksFor len → i₁ ≡ shrunk nb n d b a img
+      → e ≡ lessIndirect b a d → f ≡ lessDouble b a e → g ≡ ofLength f len → i₂ ≡ encoded i₁ n g → i₂ ≡ shorter nb n d len img
   unfolding shorter
-  shorter-by b i₁ i₂ e f g p s q₁ q₂ q₃ t = rw (t, q₃, q₂, q₁, s, p)
+  shorter-by a b i₁ i₂ e f g o p s q₁ q₂ q₃ t = rw (t, q₃, q₂, q₁, s, o, p)
+
+  -- with rule 4 of the record
+  pub longer-is : d .head .size ≤ len → longer nb n d len img ≡ cleaned nb n (d .head .size) len (lengthened nb n d len img)
+  unfolding longer
+  longer-is h =
+      let e : min (d .head .size) len ≡ d .head .size = omega arith in
+      ap (λ (z : ℕ). cleaned nb n z len (lengthened nb n d len img)) e
+
+  pub shorter-is : d .head .blocks ≤ mostBlocks
+      → shorter nb n d len img
+      ≡ encoded
+      (shrunk nb n d (blocksFor len) (d .head .blocks) img)
+      n
+      (ofLength (lessDouble (blocksFor len) (d .head .blocks) (lessIndirect (blocksFor len) (d .head .blocks) d)) len)
+  unfolding shorter
+  shorter-is h =
+      let e : fileBlocks d ≡ d .head .blocks = omega arith in
+      ap (λ (a : ℕ). encoded (shrunk nb n d (blocksFor len) a img) n (ofLength (lessDouble (blocksFor len) a (lessIndirect (blocksFor len) a d)) len)) e
 
   -- the three cases
   pub resized-up : d .head .blocks < blocksFor len → resized nb n d len img ≡ longer nb n d len img

@@ -1,5 +1,5 @@
 -- The act of a length change (document 01, "Resize"), of an inode of any kind: d is the record of inode n as the card has it, nb the card's block count.
-use Prim.Native.Nat.{ℕ}
+use Prim.Native.Nat.{ℕ, min}
 use mathlib.Core.Bool.{Bool, true, false}
 use mathlib.Core.List.{List, []}
 use lib.Dec.{ltb}
@@ -28,15 +28,22 @@ cleaned nb n off end img = filled true [] nb n off end img
 
 -- "If the block count grows, bytes from old size to new are zeroed, and no others."
 unfoldable pub longer : ℕ → ℕ → DiskINode → ℕ → List ℕ → List ℕ
-longer nb n d len img = cleaned nb n (d .head .size) len (lengthened nb n d len img)
+longer nb n d len img = cleaned nb n (min (d .head .size) len) len (lengthened nb n d len img)
+
+-- the most blocks that a length has, and those of a record that says more
+abbrev pub mostBlocks : ℕ
+mostBlocks = 1048576
+
+abbrev pub fileBlocks : DiskINode → ℕ
+fileBlocks d = min (d .head .blocks) mostBlocks
 
 -- "Shrinking frees and zeroes nothing; unused slots stay stale, except indirect and double indirect, which become 0 when their block is freed."
 unfoldable pub shorter : ℕ → ℕ → DiskINode → ℕ → List ℕ → List ℕ
 shorter nb n d len img =
     encoded
-    (shrunk nb n d (blocksFor len) (d .head .blocks) img)
+    (shrunk nb n d (blocksFor len) (fileBlocks d) img)
     n
-    (ofLength (lessDouble (blocksFor len) (d .head .blocks) (lessIndirect (blocksFor len) (d .head .blocks) d)) len)
+    (ofLength (lessDouble (blocksFor len) (fileBlocks d) (lessIndirect (blocksFor len) (fileBlocks d) d)) len)
 
 -- "If it is equal, only the size changes, so bytes appear as the block holds them"
 unfoldable pub resized : ℕ → ℕ → DiskINode → ℕ → List ℕ → List ℕ

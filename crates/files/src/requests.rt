@@ -3,8 +3,7 @@ ghost use mathlib.Core.Path.{_≡_};
 ghost use Prim.Native.Nat.{_+_, _*_, _≤_, _<_};
 ghost use mathlib.Core.Bool.{false};
 ghost use lib.ListN.{length};
-ghost use Rattle.layout.specs.Sizes.{blocksFor};
-ghost use Rattle.layout.specs.Inode.{size, count, decoded};
+ghost use Rattle.layout.specs.Inode.{decoded};
 ghost use Rattle.layout.specs.declared.inode.Decoded.the-variants.{Good, BadKind};
 ghost use Rattle.blocks.specs.Bytes.{filled};
 ghost use Rattle.blocks.specs.Steps.{Sizes};
@@ -64,7 +63,6 @@ fn file_head(image: &[u8], n: INodeId) -> Decoded
 
 // A new length: 12, then 14.
 fn judge(unused: u32, h: Head, len: usize) -> Filed
-    requires { ⌜ h .blocks ≤ 1048576 ⌝ }
     ensures { λ r. ⌜ r ≡ judged unused h len ⌝ }
 {
     if len > 4294967295 {
@@ -82,7 +80,6 @@ fn judge(unused: u32, h: Head, len: usize) -> Filed
 
 // A write of k bytes at off, whose end may be more than a machine word holds.
 fn judge_write(unused: u32, h: Head, off: u64, k: usize) -> Filed
-    requires { ⌜ h .blocks ≤ 1048576 ⌝ }
     ensures { λ r. ⌜ r ≡ writeJudged unused h (off + k) ⌝ }
 {
     if off > 4294967295 {
@@ -109,7 +106,7 @@ pub fn record_with(image: &[u8], n: INodeId, h: Head) -> DiskINode
 
 // `resize_file`, `write_file`, `read_file`: inode n is a file, and h its head.
 fn resize_file(image: &mut [u8], nb: u32, n: INodeId, h: Head, len: u64) -> Filed
-    requires { ⌜ Sizes (now image) nb × (n .0 < nb) × (count (now image) (n .0) ≡ blocksFor (size (now image) (n .0))) × (byFile (decoded (now image) (n .0)) BadKind (λ x. Good x) ≡ Good h) ⌝ }
+    requires { ⌜ Sizes (now image) nb × (n .0 < nb) × (byFile (decoded (now image) (n .0)) BadKind (λ x. Good x) ≡ Good h) ⌝ }
     ensures { λ r. ⌜ (r ≡ resizeAnswer (now (image .entry)) (n .0) len) × (now (image .exit) ≡ resizeCard nb (now (image .entry)) (n .0) len) ⌝ }
 {
     let u = superblock::unused_blocks(image);
@@ -123,7 +120,7 @@ fn resize_file(image: &mut [u8], nb: u32, n: INodeId, h: Head, len: u64) -> File
 }
 
 pub fn resize(image: &mut [u8], nb: u32, n: INodeId, len: u64) -> Filed
-    requires { ⌜ Sizes (now image) nb × (n .0 < nb) × (count (now image) (n .0) ≡ blocksFor (size (now image) (n .0))) ⌝ }
+    requires { ⌜ Sizes (now image) nb × (n .0 < nb) ⌝ }
     ensures { λ r. ⌜ (r ≡ resizeAnswer (now (image .entry)) (n .0) len) × (now (image .exit) ≡ resizeCard nb (now (image .entry)) (n .0) len) ⌝ }
 {
     match file_head(image, n) {
@@ -134,7 +131,7 @@ pub fn resize(image: &mut [u8], nb: u32, n: INodeId, len: u64) -> Filed
 
 // The file with at least end bytes.
 fn reach(image: &mut [u8], nb: u32, n: INodeId, h: Head, end: usize)
-    requires { ⌜ Sizes (now image) nb × (n .0 < nb) × (h .blocks ≡ blocksFor (h .size)) × (end ≤ 4294967295) ⌝ }
+    requires { ⌜ Sizes (now image) nb × (n .0 < nb) × (end ≤ 4294967295) ⌝ }
     ensures { λ _. ⌜ now (image .exit) ≡ reaching nb (n .0) (recordWith (now (image .entry)) (n .0) h) end (now (image .entry)) ⌝ }
 {
     if end <= h.size as usize {
@@ -146,7 +143,7 @@ fn reach(image: &mut [u8], nb: u32, n: INodeId, h: Head, end: usize)
 
 // The bytes of src at off, in a file that reaches them.
 fn put_bytes(image: &mut [u8], nb: u32, n: INodeId, h: Head, off: usize, src: &[u8])
-    requires { ⌜ Sizes (now image) nb × (n .0 < nb) × (h .blocks ≡ blocksFor (h .size)) × (endOf off (now src) ≤ 4294967295) ⌝ }
+    requires { ⌜ Sizes (now image) nb × (n .0 < nb) × (endOf off (now src) ≤ 4294967295) ⌝ }
     ensures { λ _. ⌜ now (image .exit) ≡ filled false (now (src .entry)) nb (n .0) off (endOf off (now (src .entry))) (reaching nb (n .0) (recordWith (now (image .entry)) (n .0) h) (endOf off (now (src .entry))) (now (image .entry))) ⌝ }
 {
     let end = off + src.len();
@@ -155,7 +152,7 @@ fn put_bytes(image: &mut [u8], nb: u32, n: INodeId, h: Head, off: usize, src: &[
 }
 
 fn write_file(image: &mut [u8], nb: u32, n: INodeId, h: Head, off: u64, src: &[u8]) -> Filed
-    requires { ⌜ Sizes (now image) nb × (n .0 < nb) × (count (now image) (n .0) ≡ blocksFor (size (now image) (n .0))) × (byFile (decoded (now image) (n .0)) BadKind (λ x. Good x) ≡ Good h) ⌝ }
+    requires { ⌜ Sizes (now image) nb × (n .0 < nb) × (byFile (decoded (now image) (n .0)) BadKind (λ x. Good x) ≡ Good h) ⌝ }
     ensures { λ r. ⌜ (r ≡ writeAnswer (now (image .entry)) (n .0) off (now (src .entry))) × (now (image .exit) ≡ writeCard nb (now (image .entry)) (n .0) off (now (src .entry))) ⌝ }
 {
     let u = superblock::unused_blocks(image);
@@ -168,7 +165,7 @@ fn write_file(image: &mut [u8], nb: u32, n: INodeId, h: Head, off: u64, src: &[u
 }
 
 pub fn write(image: &mut [u8], nb: u32, n: INodeId, off: u64, src: &[u8]) -> Filed
-    requires { ⌜ Sizes (now image) nb × (n .0 < nb) × (count (now image) (n .0) ≡ blocksFor (size (now image) (n .0))) ⌝ }
+    requires { ⌜ Sizes (now image) nb × (n .0 < nb) ⌝ }
     ensures { λ r. ⌜ (r ≡ writeAnswer (now (image .entry)) (n .0) off (now (src .entry))) × (now (image .exit) ≡ writeCard nb (now (image .entry)) (n .0) off (now (src .entry))) ⌝ }
 {
     match file_head(image, n) {

@@ -1,10 +1,10 @@
 // The act of a length change, of an inode of any kind: d is the record of inode n as the card has it, nb the card's block count.
 ghost use mathlib.Core.Path.{_≡_};
-ghost use Prim.Native.Nat.{_*_, _≤_, _<_};
+ghost use Prim.Native.Nat.{_*_, _≤_, _<_, min};
 ghost use lib.ListN.{length};
 ghost use Rattle.layout.specs.Sizes.{blocksFor};
 ghost use Rattle.blocks.specs.Steps.{Sizes};
-ghost use Rattle.files.specs.Resizing.{ofLength, lengthened, cleaned, longer, shorter, resized};
+ghost use Rattle.files.specs.Resizing.{ofLength, lengthened, cleaned, longer, fileBlocks, shorter, resized};
 use blocks::filling;
 use blocks::growing;
 use blocks::growing::Took;
@@ -42,10 +42,11 @@ fn clean_at(image: &mut [u8], nb: usize, n: INodeId, off: usize, end: usize)
 
 // What is new of a longer file, from its old size on: those bytes, and no others.
 fn clean_new(image: &mut [u8], nb: u32, n: INodeId, old: u32, new: u32)
-    requires { ⌜ Sizes (now image) nb × (n .0 < nb) × (old ≤ new) ⌝ }
-    ensures { λ _. ⌜ now (image .exit) ≡ cleaned nb (n .0) old new (now (image .entry)) ⌝ }
+    requires { ⌜ Sizes (now image) nb × (n .0 < nb) ⌝ }
+    ensures { λ _. ⌜ now (image .exit) ≡ cleaned nb (n .0) (min old new) new (now (image .entry)) ⌝ }
 {
-    clean_at(image, nb as usize, n, old as usize, new as usize);
+    let off = pieces::least(old as usize, new as usize);
+    clean_at(image, nb as usize, n, off, new as usize);
 }
 
 // The blocks of a longer file taken, and the record written.
@@ -65,19 +66,26 @@ fn take_for(image: &mut [u8], nb: u32, n: INodeId, d: DiskINode, len: u32)
 
 // The block count grows: what is new reads as zeros.
 fn lengthen(image: &mut [u8], nb: u32, n: INodeId, d: DiskINode, len: u32)
-    requires { ⌜ Sizes (now image) nb × (n .0 < nb) × (d .head .blocks ≤ blocksFor len) × (d .head .size ≤ len) ⌝ }
+    requires { ⌜ Sizes (now image) nb × (n .0 < nb) × (d .head .blocks ≤ blocksFor len) ⌝ }
     ensures { λ _. ⌜ now (image .exit) ≡ longer nb (n .0) d len (now (image .entry)) ⌝ }
 {
     take_for(image, nb, n, d, len);
     clean_new(image, nb, n, d.head.size, len);
 }
 
+// The blocks that a record can stand for.
+pub fn file_blocks(d: DiskINode) -> usize
+    ensures { λ r. ⌜ r ≡ fileBlocks d ⌝ }
+{
+    pieces::least(d.head.blocks as usize, 1048576)
+}
+
 // It gets less: blocks are freed, and no byte is zeroed.
 fn shorten(image: &mut [u8], nb: u32, n: INodeId, d: DiskINode, len: u32)
-    requires { ⌜ Sizes (now image) nb × (n .0 < nb) × (blocksFor len ≤ d .head .blocks) × (d .head .blocks ≤ 1048576) ⌝ }
+    requires { ⌜ Sizes (now image) nb × (n .0 < nb) × (blocksFor len ≤ d .head .blocks) ⌝ }
     ensures { λ _. ⌜ now (image .exit) ≡ shorter nb (n .0) d len (now (image .entry)) ⌝ }
 {
-    let a = d.head.blocks as usize;
+    let a = file_blocks(d);
     let b = blocks_for(len as usize);
     shrinking::shrink(image, nb, n, d, b, a);
     let e = shrinking::less_indirect(d, b, a);
@@ -87,7 +95,7 @@ fn shorten(image: &mut [u8], nb: u32, n: INodeId, d: DiskINode, len: u32)
 
 // The length of inode n becomes len. A count that stays changes no block, so that bytes appear as the last block holds them.
 pub fn resize_to(image: &mut [u8], nb: u32, n: INodeId, d: DiskINode, len: u32)
-    requires { ⌜ Sizes (now image) nb × (n .0 < nb) × (d .head .blocks ≡ blocksFor (d .head .size)) ⌝ }
+    requires { ⌜ Sizes (now image) nb × (n .0 < nb) ⌝ }
     ensures { λ _. ⌜ now (image .exit) ≡ resized nb (n .0) d len (now (image .entry)) ⌝ }
 {
     let a = d.head.blocks as usize;

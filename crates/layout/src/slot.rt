@@ -24,7 +24,7 @@ pub fn slot_of(i: usize) -> Slot
 
 // How many blocks of the second level a file of b blocks has.
 pub fn seconds_of(b: usize) -> usize
-    requires { ⌜ b ≤ 1048576 ⌝ }
+    requires { ⌜ b ≤ 4294967295 ⌝ }
     ensures { λ r. ⌜ r ≡ seconds b ⌝ }
 {
     if b < 1036 {
@@ -33,9 +33,9 @@ pub fn seconds_of(b: usize) -> usize
     1 + (b - 1036) / 1024
 }
 
-// N(b), for any file size: 4,294,967,295 bytes are 1,048,576 blocks.
+// N(b), for any count that a record can have.
 pub fn blocks_owned(b: usize) -> usize
-    requires { ⌜ b ≤ 1048576 ⌝ }
+    requires { ⌜ b ≤ 4294967295 ⌝ }
     ensures { λ r. ⌜ r ≡ owned b ⌝ }
 {
     if b < 12 {

@@ -13,8 +13,7 @@ use borrow.Author.Tests.{eqb-false}
 use Rattle.words.specs.Words.{pick}
 use Rattle.words.specs.Sums.{cnt}
 use Rattle.layout.specs.Super.{blocks}
-use Rattle.layout.specs.Sizes.{blocksFor}
-use Rattle.layout.specs.Inode.{size, kind, count, headBy, decoded}
+use Rattle.layout.specs.Inode.{kind, headBy, decoded}
 use Rattle.layout.specs.declared.inode.Head.{Head}
 use Rattle.layout.specs.declared.inode.Decoded.{Decoded}
 use Rattle.layout.specs.declared.inode.Decoded.the-variants.{Good, BadKind}
@@ -60,9 +59,6 @@ module _ {img : List ℕ} (w : Whole img) where
 
     pub reached-below : n < blocks img
     reached-below = inode-below img (w .inodes) (w .sound) n listed
-
-    pub reached-counted : count img n ≡ blocksFor (size img n)
-    reached-counted = w .sound .inode n listed .counted
 
     pub reached-kind : decoded img n ≡ BadKind → ⊥
     reached-kind e = let i = w .sound .inode n listed in unknown-kind img n e (i .kind-low) (i .kind-high)

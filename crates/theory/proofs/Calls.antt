@@ -39,7 +39,7 @@ pub data Outcome (l img img′ : List ℕ) (q : Request) (r : Said) : Type 0 whe
   stays : img′ ≡ img → saidNo r ≢ 0 → Outcome l img img′ q r
   acts : img′ ≡ after l img q → saidNo r ≡ answered l img q → Outcome l img img′ q r
 
-said-filed : (f : Filed) → saidNo (ofFiled f) ≡ filedNo f
+pub said-filed : (f : Filed) → saidNo (ofFiled f) ≡ filedNo f
 said-filed (F.Done v) = refl
 said-filed F.NotFile = refl
 said-filed F.InvalidParam = refl

@@ -23,12 +23,13 @@ use Rattle.card.specs.Places.{Place, held, InUse}
 use Rattle.card.proofs.Views.{seconds-none}
 use Rattle.card.proofs.Cells.{held-owned}
 use Rattle.card.proofs.Owners.{inode-below, held-below, not-zero, not-map}
-use Rattle.card.proofs.Counting.{owns-total}
+use Rattle.card.proofs.Counting.{count-below, owns-total}
 use Rattle.card.proofs.Frames.{SameBlock, SameFile, block-from, file-held}
 use Rattle.card.proofs.Kept.{Steady}
 use Rattle.card.proofs.Isolation.{Within, Dropped, others-same, sound-drop}
 use Rattle.blocks.specs.Taking.{freeSingle, freeTwofold, freeIndirect, freeLevel, freeDouble, shrunk}
 use Rattle.blocks.proofs.Runs.{Clear}
+use Rattle.files.specs.Resizing.{fileBlocks}
 use Rattle.acts.specs.Unlink.{dropped}
 use Rattle.theory.proofs.Freed.{Freed, freed-is, num-kept, freed-one}
 use Rattle.theory.proofs.Losses.{isData, isSecond, lost, owns-lost}
@@ -127,6 +128,9 @@ module _ (img l : List ℕ) (s : Sound img l) (bytes : Bytes img) (n : ℕ) (h :
   drop-inode e a p q =
       subst (λ (x : List ℕ). DroppedCard l img (freed x n) n)
       (sym
-      (shrunk-reads (blocks img) n e (inodeAt img n File) 0 (e .head .blocks) img p q
-      ∙ ap (λ (c : ℕ). shrunk (blocks img) n (inodeAt img n File) 0 c img) a))
+      (shrunk-reads (blocks img) n e (inodeAt img n File) 0 (fileBlocks e) img p q
+      ∙ ap (λ (c : ℕ). shrunk (blocks img) n (inodeAt img n File) 0 c img) all))
       dropped-card
+    where
+      all : fileBlocks e ≡ count img n
+      all = omega (arith, a, count-below img l s n h, s .sized .many)

@@ -9,13 +9,14 @@ use Rattle.words.specs.Words.{Bytes}
 use Rattle.words.specs.Sums.{cnt}
 use Rattle.layout.specs.Sizes.{blocksFor}
 use Rattle.layout.specs.Super.{blocks, unused}
-use Rattle.layout.specs.Inode.{kind, count, kindNo}
+use Rattle.layout.specs.Inode.{size, kind, count, kindNo}
 use Rattle.layout.specs.Slots.{owned}
 use Rattle.layout.specs.declared.inode.FileType.{FileType}
 use Rattle.layout.proofs.InodeLaws.{inodeAt}
 use Rattle.card.specs.Whole.{Sound}
-use Rattle.files.specs.Resizing.{longer, resized}
+use Rattle.files.specs.Resizing.{resized}
 use Rattle.files.specs.Requests.{longest, needs}
+use Rattle.files.proofs.Changes.{longer-is}
 use Rattle.theory.proofs.Resized.{Resized, resized-up, resized-down}
 use Rattle.theory.proofs.PlanLaws.{planning}
 use Rattle.theory.proofs.Pointed.{pointed}
@@ -26,11 +27,12 @@ use Rattle.theory.proofs.Shortened.{shorter-changed, same-changed}
 module _ (img l : List ℕ) (s : Sound img l) (bytes : Bytes img) (n : ℕ) (h : 0 < cnt n l) (k : FileType) (e : kind img n ≡ kindNo k) (len : ℕ)
     (short : len ≤ longest) (room : needs (count img n) len ≤ unused img) where
   up : count img n < blocksFor len → Resized img (resized (blocks img) n (inodeAt img n k) len img) n len
-  unfolding resized longer
+  unfolding resized
   up u =
       let r : owned (blocksFor len) ≤ owned (count img n) + unused img = omega arith in
       let plan = planning img l s n h (blocksFor len) (omega arith) r in
-      rw (lt-ltb (count img n) (blocksFor len) u)
+      let z : size img n ≤ len = omega (arith, s .inode n h .counted) in
+      rw (lt-ltb (count img n) (blocksFor len) u, longer-is (blocks img) n (inodeAt img n k) len img z)
       (resized-up s h u
       (grown-changed s h u r
       (grows img l s bytes n h len (omega arith) u r plan k e (pointed img l s bytes n h (blocksFor len) u r plan k))))

@@ -55,6 +55,10 @@ pub mod MoveDir
 pub mod MoveCarry
 pub mod MoveJudged
 pub mod MoveCard
+pub mod Frame
+pub mod Refusals
+pub mod DoneCalls
+pub mod Made
 pub mod ExamplesFresh
 pub mod ExamplesFile
 pub mod Examples

@@ -35,7 +35,7 @@ use Rattle.blocks.specs.Taking.{
   lessIndirect,
   lessDouble,
 }
-use Rattle.files.specs.Resizing.{ofLength, growth, lengthened, shorter}
+use Rattle.files.specs.Resizing.{ofLength, growth, lengthened, fileBlocks, shorter}
 use Rattle.theory.proofs.Losses.{less-both}
 
 -- the card with v as the links of inode n
@@ -150,7 +150,7 @@ module _ (nb n : ℕ) (d : DiskINode) (v len : ℕ) (img : List ℕ) where
   unfolding shorter
   shorter-links =
       let b : ℕ = blocksFor len in
-      let a : ℕ = d .head .blocks in
+      let a : ℕ = fileBlocks d in
       ap (λ (x : List ℕ). encoded x n (ofLength (lessDouble b a (lessIndirect b a (withLinks d v))) len)) (freed-links b a)
       ∙ ap (λ (x : DiskINode). encoded (shrunk nb n d b a img) n (ofLength x len)) (less-both b a (withLinks d v))
       ∙ ap (λ (x : DiskINode). encoded (shrunk nb n d b a img) n (ofLength (withLinks x v) len)) (sym (less-both b a d))

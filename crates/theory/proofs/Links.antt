@@ -28,7 +28,8 @@ use Rattle.card.proofs.Owners.{owns-uses, inode-below, places-differ, not-zero,
 use Rattle.card.proofs.Frames.{SameBlock, SameFile, block-from, block-slot, block-sym, block-trans, seconds-fit, inode-room}
 use Rattle.card.proofs.Kept.{SameSuper, SameMap, super-block, map-blocks, bit-of, slots-few, magic-is, blocks-is, unused-is, maps-is}
 use Rattle.card.proofs.Isolation.{Within, Balanced, others-same, sound-one}
-use Rattle.files.specs.Resizing.{cleaned, lengthened, longer, resized}
+use Rattle.files.specs.Resizing.{cleaned, lengthened, resized}
+use Rattle.files.proofs.Changes.{longer-is}
 use Rattle.files.specs.Requests.{longest, needs}
 use Rattle.theory.proofs.Change.{Changed}
 use Rattle.theory.proofs.PlanLaws.{planning}
@@ -315,7 +316,7 @@ module _ (img l : List ℕ) (s : Sound img l) (bytes : Bytes img) (n : ℕ) (h :
 
   module _ (k : FileType) (e : kind img n ≡ kindNo k) (len : ℕ) (short : len ≤ longest) (room : needs (count img n) len ≤ unused img) where
     up : count img n < blocksFor len → ResizedWith img (resized (blocks img) n (withLinks (inodeAt img n k) v) len img) n len v
-    unfolding resized longer
+    unfolding resized
     up u =
         let r : owned (blocksFor len) ≤ owned (count img n) + unused img = omega arith in
         let plan = planning img l s n h (blocksFor len) (omega arith) r in
@@ -325,7 +326,12 @@ module _ (img l : List ℕ) (s : Sound img l) (bytes : Bytes img) (n : ℕ) (h :
         let same : cleaned (blocks (relinked img n v)) n (size (relinked img n v) n) len mid ≡ cleaned (blocks img) n (size img n) len mid =
         ap (λ (b : ℕ). cleaned b n (size (relinked img n v) n) len mid) (t .balanced .steady .blocks-same)
         ∙ ap (λ (z : ℕ). cleaned (blocks img) n z len mid) (t .size-is) in
-        rw (lt-ltb (count img n) (blocksFor len) u, lengthened-links (blocks img) n (inodeAt img n k) v len img)
+        let z : size img n ≤ len = omega (arith, s .inode n h .counted) in
+        rw (
+          lt-ltb (count img n) (blocksFor len) u,
+          longer-is (blocks img) n (withLinks (inodeAt img n k) v) len img z,
+          lengthened-links (blocks img) n (inodeAt img n k) v len img,
+        )
         (with-links
         (subst (λ (x : List ℕ). Resized (relinked img n v) x n len) same
         (resized-up (t .sound) h (rw (t .count-is) u) (changed-links s bytes h v low c))))

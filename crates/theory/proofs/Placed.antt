@@ -21,7 +21,8 @@ use Rattle.card.specs.Places.{Place, held}
 use Rattle.card.proofs.Kept.{slots-few, bit-of}
 use Rattle.card.proofs.Isolation.{WithinData, sound-one, data-slots, data-map}
 use Rattle.blocks.proofs.Taken.{nthFree, nth-below}
-use Rattle.files.specs.Resizing.{lengthened, cleaned, longer, resized}
+use Rattle.files.specs.Resizing.{lengthened, cleaned, resized}
+use Rattle.files.proofs.Changes.{longer-is}
 use Rattle.files.specs.Requests.{longest, needs}
 use Rattle.theory.proofs.Change.{Changed}
 use Rattle.theory.proofs.Plan.{Had, had-in-use, planned, more, Planning, Grown}
@@ -83,5 +84,7 @@ module _ (img l : List ℕ) (s : Sound img l) (bytes : Bytes img) (n : ℕ) (h :
       nth-low j q = nth-below (blocks img) img j (omega (arith, s .free, enough)) .0
 
   pub grow-placed : Placed img (resized (blocks img) n (inodeAt img n k) len img) n len
-  unfolding resized longer
-  grow-placed = rw (lt-ltb (count img n) (blocksFor len) up) after
+  unfolding resized
+  grow-placed =
+      let z : size img n ≤ len = omega (arith, s .inode n h .counted) in
+      rw (lt-ltb (count img n) (blocksFor len) up, longer-is (blocks img) n (inodeAt img n k) len img z) after

@@ -56,6 +56,7 @@ use Rattle.card.specs.View.{slot, second, dataAt, owns}
 use Rattle.card.specs.Whole.{Inode, Sound}
 use Rattle.card.specs.Places.{Place, at-inode, at-indirect, at-double, at-second, at-data, held, InUse}
 use Rattle.card.proofs.Views.{data-direct, data-indirect, data-double, seconds-many, seconds-reach, none-below, ranges, owns-parts, owns-own}
+use Rattle.card.proofs.Counting.{count-below}
 use Rattle.card.proofs.Cells.{rank}
 use Rattle.card.proofs.Owners.{owns-uses, inode-below, places-differ, not-zero, not-map}
 use Rattle.card.proofs.Frames.{SameBlock, block-from, block-slot, seconds-fit}
@@ -64,6 +65,7 @@ use Rattle.card.proofs.Isolation.{Balanced}
 use Rattle.blocks.specs.Taking.{shrunk, lessIndirect, lessDouble}
 use Rattle.blocks.proofs.Runs.{Clear}
 use Rattle.files.specs.Resizing.{ofLength, shorter}
+use Rattle.files.proofs.Changes.{shorter-is}
 use Rattle.theory.proofs.Change.{Changed}
 use Rattle.theory.proofs.Plan.{Had, in-use-had}
 use Rattle.theory.proofs.Freed.{Freed, freed-none}
@@ -319,16 +321,16 @@ module _ (img l : List ℕ) (s : Sound img l) (bytes : Bytes img) (n : ℕ) (h :
 
   -- the block count gets less
   pub shorter-changed : blocksFor len < count img n → Changed img (shorter (blocks img) n (inodeAt img n k) len img) n len
-  unfolding shorter
   shorter-changed q =
       let b = blocksFor len in
       let a = count img n in
       let d = inodeAt img n k in
-      recorded img l s n h len (omega arith) (λ x. lost img n x b) (shrunk (blocks img) n d b a img)
+      rw (shorter-is (blocks img) n d len img (omega (arith, count-below img l s n h, s .sized .many)))
+      (recorded img l s n h len (omega arith) (λ x. lost img n x b) (shrunk (blocks img) n d b a img)
       (shrunk-freed img l s n h b (omega arith) bytes k)
       (λ x. owns-lost img n x b (omega arith))
       (ofLength (lessDouble b a (lessIndirect b a d)) len)
-      less-recorded
+      less-recorded)
 
   -- it stays
   pub same-changed : blocksFor len ≡ count img n → Changed img (encoded img n (withSize (inodeAt img n k) len)) n len

@@ -1,3 +1,5 @@
 pub mod Days
 pub mod Calls
+pub mod Frame
+pub mod Made
 pub mod Examples

@@ -8,7 +8,7 @@ use Rattle.blocks.specs.Steps.{Sizes}
 use Rattle.acts.specs.declared.Acted.{Acted}
 use Rattle.acts.proofs.Refused.{Refused}
 use Rattle.acts.proofs.Ready.{sizes-whole, below-ready, readable-ready}
-use Rattle.acts.proofs.Heads.{head-counted, head-small}
+use Rattle.acts.proofs.Heads.{head-small}
 use Rattle.acts.proofs.CreateLaws.{taken-name, taken-links, create-refused, create-bad, create-done}
 use borrow.Author.Needs.{needs}
 use Rattle.acts.proofs.creating.create.Statement.{statement}
@@ -65,7 +65,6 @@ make-requires c κs =
     rw (c .before .record-with .ensures) (
       subst (Sizes (a .image .now)) (sym (p .2)) (sizes-whole (a .image .now) (p .0)),
       omega (arith, p .2, below-ready (a .image .now) (p .0) (a .p .0) (p .1)),
-      head-counted (a .image .now) (p .0) (a .p .0) (p .1) h g,
       head-small (a .image .now) (p .0) (a .p .0) (p .1) h g,
       taken-name (a .nb) (a .image .now) (a .p .0) (a .x .now) (a .kind) h g _ e,
       taken-links (a .nb) (a .image .now) (a .p .0) (a .x .now) (a .kind) h g _ e l,

@@ -12,7 +12,7 @@ entry-needs-requires c κs = search needs
 add-result : tie.Need-add-result
 add-result c =
     let s = c .before .before in
-    omega (arith, c .before .entry-needs .ensures, needs-small (s .args .h .blocks) (s .args .h .size) (s .pre .1))
+    omega (arith, c .before .entry-needs .ensures, needs-small (s .args .h .blocks) (s .args .h .size) (s .pre))
 
 returns : tie.Need-returns
 returns c = rw (eq-eqb (c .before .before .args .kind) 2 (c .if1 .taken)) (omega (arith, c .before .entry-needs .ensures))
@@ -20,7 +20,7 @@ returns c = rw (eq-eqb (c .before .before .args .kind) 2 (c .if1 .taken)) (omega
 add-result-2 : tie.Need-add-result-2
 add-result-2 c =
     let s = c .before .before in
-    omega (arith, c .before .entry-needs .ensures, needs-small (s .args .h .blocks) (s .args .h .size) (s .pre .1))
+    omega (arith, c .before .entry-needs .ensures, needs-small (s .args .h .blocks) (s .args .h .size) (s .pre))
 
 returns-2 : tie.Need-returns-2
 returns-2 c = rw (ne-eqb (c .before .before .args .kind) 2 (c .if1 .left)) (omega (arith, c .before .entry-needs .ensures))

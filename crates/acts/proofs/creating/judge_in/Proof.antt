@@ -3,7 +3,7 @@ use mathlib.Core.Path.{sym, _∙_}
 use native.Mathlib.Omega.{arith}
 use borrow.Author.Tests.{not-true, not-false}
 use Rattle.acts.proofs.Ready.{sizes-whole}
-use Rattle.acts.proofs.Heads.{head-is, head-few, head-small}
+use Rattle.acts.proofs.Heads.{head-is, head-small}
 use Rattle.acts.proofs.CreateLaws.{create-name, create-there, create-kind, create-rest}
 use borrow.Author.Needs.{needs}
 use Rattle.acts.proofs.creating.judge_in.Statement.{statement}
@@ -52,7 +52,7 @@ create-room-requires c κs =
     let s = c .before .before .before .before .before .before .before .before .before in
     let a = s .args in
     let p = s .pre in
-    rw (p .2) (sizes-whole (a .image .now) (p .0), head-few (a .image .now) (p .0) (a .p .0) (p .1) (a .h) (p .3), head-small (a .image .now) (p .0) (a .p .0) (p .1) (a .h) (p .3))
+    rw (p .2) (sizes-whole (a .image .now) (p .0), head-small (a .image .now) (p .0) (a .p .0) (p .1) (a .h) (p .3))
 
 returns-4 : tie.Need-returns-4
 returns-4 c =

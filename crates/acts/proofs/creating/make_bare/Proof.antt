@@ -1,4 +1,3 @@
-use mathlib.Core.Path.{refl}
 use borrow.Author.Needs.{needs}
 use Rattle.acts.proofs.creating.make_bare.Statement.{statement}
 use Rattle.acts.proofs.creating.make_bare.Tie as tie
@@ -23,7 +22,7 @@ encode-requires c κs = search needs
 
 -- src/creating.rt:153:5
 resize-to-requires : tie.Need-resize-to-requires
-resize-to-requires c κs = rw (c .before .before .before .before .before .set-nlinks .ensures, c .before .before .before .before .before .before .new .ensures) (search needs, search needs, refl)
+resize-to-requires c κs = search needs
 
 -- src/creating.rt:146:1
 same-length : tie.Need-same-length

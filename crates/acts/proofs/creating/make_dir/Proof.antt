@@ -1,8 +1,6 @@
 -- `acts::creating::make_dir` meets its contract. The block that is taken is on the card; a link more changes no size. Assumes nothing.
-use mathlib.Core.Path.{_≡_}
 use Prim.Native.Nat.{_+_, _≤_, _<_}
 use native.Mathlib.Omega.{arith}
-use Rattle.layout.specs.Sizes.{blocksFor}
 use Rattle.blocks.proofs.Growth.{nextFree-below}
 use Rattle.acts.specs.Create.{madeDir}
 use borrow.Author.Needs.{needs}
@@ -33,8 +31,7 @@ append-direntry-requires : tie.Need-append-direntry-requires
 append-direntry-requires c κs =
     let n = c .before .set-nlinks in
     let p = c .before .before .before .before .before .before .before .before .before .before .before .before .before .before .before .pre in
-    let b : n .result .head .blocks ≡ blocksFor (n .result .head .size) = rw (n .ensures) (p .2) in
-    let z : n .result .head .size + 260 ≤ 4294967295 = rw (n .ensures) (p .3) in
+    let z : n .result .head .size + 260 ≤ 4294967295 = rw (n .ensures) (p .2) in
     search needs
 
 same-length : tie.Need-same-length

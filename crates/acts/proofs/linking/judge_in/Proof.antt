@@ -3,7 +3,7 @@ use mathlib.Core.Path.{sym, _∙_}
 use native.Mathlib.Omega.{arith}
 use borrow.Author.Tests.{not-true, not-false}
 use Rattle.acts.proofs.Ready.{sizes-whole, readable-ready}
-use Rattle.acts.proofs.Heads.{head-is, head-few, head-small}
+use Rattle.acts.proofs.Heads.{head-is, head-small}
 use Rattle.acts.proofs.LinkLaws.{link-name, link-there, link-bad-kind, link-rest}
 use borrow.Author.Needs.{needs}
 use Rattle.acts.proofs.linking.judge_in.Statement.{statement}
@@ -48,7 +48,7 @@ link-room-requires c κs =
     let a = s .args in
     let p = s .pre in
     let z = sizes-whole (a .image .now) (p .0) in
-    (omega (arith, z .few, z .long), head-few (a .image .now) (p .0) (a .p .0) (p .1) (a .h) (p .3), head-small (a .image .now) (p .0) (a .p .0) (p .1) (a .h) (p .3))
+    (omega (arith, z .few, z .long), head-small (a .image .now) (p .0) (a .p .0) (p .1) (a .h) (p .3))
 
 enum-told : tie.Need-enum-told
 enum-told c = search needs

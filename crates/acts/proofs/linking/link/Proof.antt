@@ -8,7 +8,7 @@ use Rattle.blocks.specs.Steps.{Sizes}
 use Rattle.acts.specs.declared.Acted.{Acted}
 use Rattle.acts.proofs.Refused.{Refused}
 use Rattle.acts.proofs.Ready.{sizes-whole, below-ready, readable-ready}
-use Rattle.acts.proofs.Heads.{head-counted, head-small}
+use Rattle.acts.proofs.Heads.{head-small}
 use Rattle.acts.proofs.LinkLaws.{linked-name, linked-few, link-refused, link-bad-parent, link-bad-inode, link-done}
 use borrow.Author.Needs.{needs}
 use Rattle.acts.proofs.linking.link.Statement.{statement}
@@ -92,7 +92,6 @@ put-link-requires c κs =
       subst (Sizes (a .image .now)) (sym (p .3)) (sizes-whole (a .image .now) (p .0)),
       omega (arith, p .3, below-ready (a .image .now) (p .0) (a .p .0) (p .1)),
       omega (arith, p .3, below-ready (a .image .now) (p .0) (a .c .0) (p .2)),
-      head-counted (a .image .now) (p .0) (a .p .0) (p .1) h q,
       head-small (a .image .now) (p .0) (a .p .0) (p .1) h q,
       linked-name (a .image .now) (a .p .0) (a .x .now) (a .c .0) h g q e _ t,
       linked-few (a .image .now) (a .p .0) (a .x .now) (a .c .0) h g q e _ t l,

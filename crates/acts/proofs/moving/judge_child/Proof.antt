@@ -3,7 +3,7 @@ use mathlib.Core.Path.{sym, _∙_}
 use native.Mathlib.Omega.{arith}
 use Rattle.layout.specs.Inode.{decoded}
 use Rattle.acts.proofs.Ready.{sizes-whole, readable-ready}
-use Rattle.acts.proofs.Heads.{head-few, head-small}
+use Rattle.acts.proofs.Heads.{head-small}
 use Rattle.acts.proofs.Refused.{of-good, of-bad}
 use Rattle.acts.proofs.Dirs.{entry-inside, named-reached}
 use borrow.Author.Needs.{needs}
@@ -35,7 +35,6 @@ move-room-requires c κs =
       p .4,
       p .5,
       omega (arith, z .few, z .long),
-      head-few (a .image .now) (p .0) (a .t .0) (p .4) (a .h) (p .6),
       head-small (a .image .now) (p .0) (a .t .0) (p .4) (a .h) (p .6),
     )
 

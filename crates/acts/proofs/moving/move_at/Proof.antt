@@ -10,7 +10,7 @@ use Rattle.acts.proofs.moving.move_at.Tie as tie
 move-to-requires : tie.Need-move-to-requires
 move-to-requires c κs =
     let p = c .before .before .before .before .before .before .pre in
-    (p .0, p .1, p .2, p .3, p .4, p .5, p .6, p .7, p .8, p .9 (c .before .if1 .taken), p .10)
+    (p .0, p .1, p .2, p .3, p .4, p .5, p .6, p .7 (c .before .if1 .taken), p .8)
 
 same-length : tie.Need-same-length
 same-length c = search needs

@@ -19,7 +19,7 @@ set-nlinks-requires-2 c κs = search needs
 move-file-requires : tie.Need-move-file-requires
 move-file-requires c κs =
     let p = c .before .before .before .before .before .before .before .pre in
-    rw (c .set-nlinks2 .ensures, c .before .set-nlinks .ensures) (p .0, p .1, p .2, p .4, p .5, p .6, p .7, p .8, p .10)
+    rw (c .set-nlinks2 .ensures, c .before .set-nlinks .ensures) (p .0, p .1, p .2, p .4, p .5, p .6, p .8)
 
 put-up-requires : tie.Need-put-up-requires
 put-up-requires c κs = search needs

@@ -19,7 +19,7 @@ move-dir-requires c κs =
     let p = c .before .before .before .before .before .before .before .before .before .pre in
     let d = sym (c .before .before .is-dir .ensures) ∙ c .before .if1 .taken in
     rw (c .before .before .before .record-with2 .ensures, c .before .before .before .before .before .record-with .ensures)
-    (p .0, p .1, p .2, p .3, p .4, p .5, p .6, p .7, p .8, p .9 d, p .10)
+    (p .0, p .1, p .2, p .3, p .4, p .5, p .6, p .7 d, p .8)
 
 same-length : tie.Need-same-length
 same-length c = search needs
@@ -32,7 +32,7 @@ returns c =
 move-file-requires : tie.Need-move-file-requires
 move-file-requires c κs =
     let p = c .before .before .before .before .before .before .before .before .before .pre in
-    rw (c .before .before .before .record-with2 .ensures, c .before .before .before .before .before .record-with .ensures) (p .0, p .1, p .2, p .4, p .5, p .6, p .7, p .8, p .10)
+    rw (c .before .before .before .record-with2 .ensures, c .before .before .before .before .before .record-with .ensures) (p .0, p .1, p .2, p .4, p .5, p .6, p .8)
 
 same-length-2 : tie.Need-same-length-2
 same-length-2 c = search needs

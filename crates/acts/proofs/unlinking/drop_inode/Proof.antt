@@ -4,8 +4,8 @@ use borrow.Author.Needs.{needs}
 use Rattle.acts.proofs.unlinking.drop_inode.Statement.{statement}
 use Rattle.acts.proofs.unlinking.drop_inode.Tie as tie
 
-cast-shrink : tie.Need-cast-shrink
-cast-shrink c = search needs
+file-blocks-requires : tie.Need-file-blocks-requires
+file-blocks-requires c κs = search needs
 
 shrink-requires : tie.Need-shrink-requires
 shrink-requires c κs = search needs
@@ -18,8 +18,8 @@ same-length c = search needs
 
 returns : tie.Need-returns
 unfolding dropped
-returns c = rw (c .before .before .free-block .ensures, c .before .before .before .before .before .before .shrink .ensures)
+returns c = rw (c .before .before .free-block .ensures, c .before .before .before .before .before .before .shrink .ensures, c .before .before .before .before .before .before .before .before .file-blocks .ensures)
 
 pub drop-inode-spec : {M : Type 1} → statement M
 drop-inode-spec =
-    tie.close (tie.spec cast-shrink shrink-requires free-block-requires same-length returns)
+    tie.close (tie.spec file-blocks-requires shrink-requires free-block-requires same-length returns)

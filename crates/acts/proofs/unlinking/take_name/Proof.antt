@@ -15,7 +15,7 @@ set-nlinks-requires c κs = search needs
 remove-direntry-requires : tie.Need-remove-direntry-requires
 remove-direntry-requires c κs =
     let p = c .before .before .before .before .before .pre in
-    rw (c .set-nlinks .ensures) (p .0, p .1, p .3, p .4, p .5)
+    rw (c .set-nlinks .ensures) (p .0, p .1, p .3, p .4)
 
 set-nlinks-requires-2 : tie.Need-set-nlinks-requires-2
 set-nlinks-requires-2 c κs = search needs

@@ -81,9 +81,8 @@ unlink-at-requires c κs =
     let a = c .before .before .before .before .before .before .before .before .before .before .before .before .before .before .before .before .before .before .before .before .before .args in
     let p = c .before .before .before .before .before .before .before .before .before .before .before .before .before .before .before .before .before .before .before .before .before .pre in
     let q = sym (c .before .before .before .before .before .before .before .before .before .before .before .before .before .before .before .before .before .decode .ensures) ∙ c .before .before .before .before .before .before .before .before .before .before .before .before .before .before .before .h .given .1 in
-    let e = sym (c .before .before .before .before .before .before .before .before .decode2 .ensures) ∙ c .before .before .before .before .before .before .g .given .1 in
-    rw (c .before .before .before .record-with .ensures, c .before .record-with2 .ensures)
-    (unlink-ready (a .image .now) (p .0) (a .p .0) (p .1) (a .x .now) (p .3) _ q _ (c .before .before .before .before .before .before .before .before .before .before .before .before .is-there .ensures) _ (c .before .before .before .before .before .before .before .before .before .before .entry-number .ensures) (a .nb) (p .2) _ e)
+    rw (c .before .before .before .record-with .ensures)
+    (unlink-ready (a .image .now) (p .0) (a .p .0) (p .1) (a .x .now) (p .3) _ q _ (c .before .before .before .before .before .before .before .before .before .before .before .before .is-there .ensures) _ (c .before .before .before .before .before .before .before .before .before .before .entry-number .ensures) (a .nb) (p .2))
 
 same-length-3 : tie.Need-same-length-3
 same-length-3 c = search needs

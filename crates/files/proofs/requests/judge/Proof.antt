@@ -24,7 +24,7 @@ blocks-owned-requires-2 c κs = search needs
 add-if2 : tie.Need-add-if2
 add-if2 c =
     let a = c .before .before .before .before .before .args in
-    omega (arith, c .before .blocks-owned .ensures, owned-below (a .h .blocks), c .before .before .before .before .before .pre)
+    omega (arith, c .before .blocks-owned .ensures, owned-below (a .h .blocks))
 
 returns-2 : tie.Need-returns-2
 returns-2 c =

@@ -19,9 +19,7 @@ cast-resize-to : tie.Need-cast-resize-to
 cast-resize-to c = search needs
 
 resize-to-requires : tie.Need-resize-to-requires
-resize-to-requires c κs =
-    let p = c .before .before .before .before .before .before .pre in
-    rw (c .before .record-with .ensures) (p .0, p .1, p .2)
+resize-to-requires c κs = search needs
 
 same-length : tie.Need-same-length
 same-length c = search needs

@@ -14,7 +14,7 @@ enum-known-h c = search needs
 resize-file-requires : tie.Need-resize-file-requires
 resize-file-requires c κs =
     let p = c .before .before .before .before .before .before .before .pre in
-    (p .0, p .1, p .2, sym (c .before .before .before .before .file-head .ensures) ∙ c .before .before .h .given .1)
+    (p .0, p .1, sym (c .before .before .before .before .file-head .ensures) ∙ c .before .before .h .given .1)
 
 enum-told : tie.Need-enum-told
 enum-told c = search needs

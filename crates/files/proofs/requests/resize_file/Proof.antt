@@ -1,7 +1,6 @@
 -- `files::requests::resize_file` meets its contract. What is refused changes nothing; what is taken on is a length that fits. Assumes nothing.
-use mathlib.Core.Path.{_≡_, sym, _∙_}
-use Rattle.layout.specs.Sizes.{blocksFor}
-use Rattle.files.proofs.Answers.{judged-within, on-done, on-refused, head-counted}
+use mathlib.Core.Path.{sym, _∙_}
+use Rattle.files.proofs.Answers.{judged-within, on-done, on-refused}
 use Rattle.files.proofs.Calls.{resize-good}
 use borrow.Author.Needs.{needs}
 use Rattle.files.proofs.requests.resize_file.Statement.{statement}
@@ -11,11 +10,7 @@ unused-blocks-requires : tie.Need-unused-blocks-requires
 unused-blocks-requires c κs = search needs
 
 judge-requires : tie.Need-judge-requires
-judge-requires c κs =
-    let s = c .before .before .before in
-    let a = s .args in
-    let b : a .h .blocks ≡ blocksFor (a .h .size) = head-counted (a .image .now) (a .n .0) (a .h) (s .pre .3) (s .pre .2) in
-    search needs
+judge-requires c κs = search needs
 
 enum-told : tie.Need-enum-told
 enum-told c = search needs
@@ -29,7 +24,7 @@ returns c =
     let u = c .before .before .unused-blocks in
     let s = c .before .before .before .before .before in
     let a = s .args in
-    resize-good (a .nb) (a .image .now) (a .n .0) (a .len) (a .h) _ _ (s .pre .3)
+    resize-good (a .nb) (a .image .now) (a .n .0) (a .len) (a .h) _ _ (s .pre .2)
     (rw (← u .ensures) (j .ensures))
     (rw (← u .ensures, ← j .ensures) (sym (on-refused (j .result) _ _ (c .match .keys2))))
 
@@ -42,11 +37,7 @@ cast-resize-to c =
     search needs
 
 resize-to-requires : tie.Need-resize-to-requires
-resize-to-requires c κs =
-    let s = c .before .before .before .before .before .before .before .before .before in
-    let a = s .args in
-    let p = s .pre in
-    rw (c .before .record-with .ensures) (p .0, p .1, head-counted (a .image .now) (a .n .0) (a .h) (p .3) (p .2))
+resize-to-requires c κs = search needs
 
 same-length-2 : tie.Need-same-length-2
 same-length-2 c = search needs
@@ -59,7 +50,7 @@ returns-2 c =
     let u = c .before .before .before .before .before .before .before .before .before .unused-blocks in
     let s = c .before .before .before .before .before .before .before .before .before .before .before .before in
     let a = s .args in
-    resize-good (a .nb) (a .image .now) (a .n .0) (a .len) (a .h) _ _ (s .pre .3)
+    resize-good (a .nb) (a .image .now) (a .n .0) (a .len) (a .h) _ _ (s .pre .2)
     (rw (← u .ensures) (j .ensures))
     (rw (← u .ensures, ← j .ensures, ← r .ensures) (c .before .before .resize-to .ensures ∙ sym (on-done (j .result) _ _ _ (t .given .1))))
 

@@ -2,8 +2,7 @@
 use mathlib.Core.Path.{_≡_, sym, _∙_}
 use Prim.Native.Nat.{_≤_}
 use denote.Ref.{now}
-use Rattle.layout.specs.Sizes.{blocksFor}
-use Rattle.files.proofs.Answers.{write-within, on-done, on-refused, head-counted}
+use Rattle.files.proofs.Answers.{write-within, on-done, on-refused}
 use Rattle.files.proofs.Calls.{write-good}
 use borrow.Author.Needs.{needs}
 use Rattle.files.proofs.requests.write_file.Statement.{statement}
@@ -13,11 +12,7 @@ unused-blocks-requires : tie.Need-unused-blocks-requires
 unused-blocks-requires c κs = search needs
 
 judge-write-requires : tie.Need-judge-write-requires
-judge-write-requires c κs =
-    let s = c .before .before .before .before in
-    let a = s .args in
-    let b : a .h .blocks ≡ blocksFor (a .h .size) = head-counted (a .image .now) (a .n .0) (a .h) (s .pre .3) (s .pre .2) in
-    search needs
+judge-write-requires c κs = search needs
 
 enum-told : tie.Need-enum-told
 enum-told c = search needs
@@ -31,7 +26,7 @@ returns c =
     let u = c .before .before .unused-blocks in
     let s = c .before .before .before .before .before .before in
     let a = s .args in
-    write-good (a .nb) (a .image .now) (a .n .0) (a .off) (now (a .src)) (a .h) _ _ (s .pre .3)
+    write-good (a .nb) (a .image .now) (a .n .0) (a .off) (now (a .src)) (a .h) _ _ (s .pre .2)
     (rw (← u .ensures, ← j .ensures) (sym (on-refused (j .result) _ _ (c .match .keys2))))
     (rw (← u .ensures, ← j .ensures) (sym (on-refused (j .result) _ _ (c .match .keys2))))
 
@@ -42,7 +37,7 @@ put-bytes-requires c κs =
     let p = s .pre in
     let fits : a .h .size ≤ 4294967295 = search needs in
     let l = write-within _ _ _ fits _ (sym (c .before .before .before .judge-write .ensures) ∙ c .before .enum-told .given .1) in
-    (p .0, p .1, head-counted (a .image .now) (a .n .0) (a .h) (p .3) (p .2), l)
+    (p .0, p .1, l)
 
 cast-t15 : tie.Need-cast-t15
 cast-t15 c =
@@ -62,7 +57,7 @@ returns-2 c =
     let u = c .before .before .before .before .before .before .before .unused-blocks in
     let s = c .before .before .before .before .before .before .before .before .before .before .before in
     let a = s .args in
-    write-good (a .nb) (a .image .now) (a .n .0) (a .off) (now (a .src)) (a .h) _ _ (s .pre .3)
+    write-good (a .nb) (a .image .now) (a .n .0) (a .off) (now (a .src)) (a .h) _ _ (s .pre .2)
     (rw (← u .ensures, ← j .ensures) (sym (on-done (j .result) _ _ _ (t .given .1))))
     (rw (← u .ensures, ← j .ensures) (c .before .before .put-bytes .ensures ∙ sym (on-done (j .result) _ _ _ (t .given .1))))
 

@@ -5,8 +5,8 @@ use borrow.Author.Needs.{needs}
 use Rattle.files.proofs.resizing.shorten.Statement.{statement}
 use Rattle.files.proofs.resizing.shorten.Tie as tie
 
-cast-a : tie.Need-cast-a
-cast-a c = search needs
+file-blocks-requires : tie.Need-file-blocks-requires
+file-blocks-requires c κs = search needs
 
 blocks-for-requires : tie.Need-blocks-for-requires
 blocks-for-requires c κs = search needs
@@ -32,7 +32,8 @@ same-length c = search needs
 returns : tie.Need-returns
 returns c =
     let a = c .before .before .before .before .before .before .before .before .before .before .before .before .before .before .args in
-    shorter-by (a .nb) (a .n .0) (a .d) (a .len) (a .image .now) _ _ _ _ _ _
+    shorter-by (a .nb) (a .n .0) (a .d) (a .len) (a .image .now) _ _ _ _ _ _ _
+    (c .before .before .before .before .before .before .before .before .before .before .before .before .file-blocks .ensures)
     (c .before .before .before .before .before .before .before .before .before .before .before .blocks-for .ensures)
     (c .before .before .before .before .before .before .before .before .before .shrink .ensures)
     (c .before .before .before .before .before .before .less-indirect .ensures)
@@ -44,7 +45,7 @@ pub shorten-spec : {M : Type 1} → statement M
 shorten-spec =
     tie.close
     (tie.spec
-    cast-a
+    file-blocks-requires
     blocks-for-requires
     shrink-requires
     less-indirect-requires

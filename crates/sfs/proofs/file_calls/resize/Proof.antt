@@ -4,7 +4,7 @@ use Prim.Native.Nat.{ℕ}
 use denote.Ref.{now}
 use Rattle.files.specs.declared.Filed.{Filed}
 use Rattle.sfs.specs.Said.{ofFiled}
-use Rattle.sfs.proofs.Opened.{reached-counted, ready, ready-sizes, ready-below, on-open, on-shut}
+use Rattle.sfs.proofs.Opened.{ready, ready-sizes, ready-below, on-open, on-shut}
 use Rattle.files.specs.Requests.{resizeCard}
 use borrow.Author.Needs.{needs}
 use Rattle.sfs.proofs.file_calls.resize.Statement.{statement}
@@ -39,7 +39,7 @@ resize-requires : tie.Need-resize-requires
 resize-requires c κs =
     let g = c .before .before .o .given in
     let r = ready (g .0 .0) (c .before .before .before .before .before .before .open-card .ensures) (g .1) in
-    (ready-sizes r, ready-below r (r .first), reached-counted (r .card) (r .first))
+    (ready-sizes r, ready-below r (r .first))
 
 of-filed-requires : tie.Need-of-filed-requires
 of-filed-requires c κs = search needs

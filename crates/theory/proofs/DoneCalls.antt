@@ -1,0 +1,258 @@
+-- What the statements of create, link, unlink, move and format say of a call that answers 0: what the definitions of the calls promise, and the frame that it
+-- leaves. Assumes nothing.
+use mathlib.Core.Path.{_≡_, refl, sym, ap, _∙_, subst}
+use mathlib.Core.Bool.{Bool, true, false}
+use mathlib.Core.List.{List, [], _∷_}
+use Prim.Native.Nat.{ℕ, _+_}
+use native.Mathlib.Omega.{arith}
+use native.Mathlib.Decide.{ℕ-discrete}
+use lib.Dec.{eqb, ltb}
+use lib.ListN.{length}
+use Rattle.words.specs.Words.{pick, Bytes}
+use Rattle.layout.specs.Super.{blocks, unused}
+use Rattle.layout.specs.Sizes.{blocksFor}
+use Rattle.layout.specs.Inode.{decoded}
+use Rattle.layout.specs.declared.inode.Head.{Head}
+use Rattle.layout.specs.declared.inode.Decoded.{Decoded}
+use Rattle.layout.specs.declared.inode.Decoded.the-variants.{Good, BadKind}
+use Rattle.card.specs.View.{entries}
+use Rattle.card.specs.Whole.{Reached, Whole}
+use Rattle.card.proofs.Tree.{reached-listed}
+use Rattle.walk.specs.declared.Opened.{Opened}
+use Rattle.walk.specs.declared.Opened.the-variants.{Open, ScratchShort, WrongFs, Damaged, NoInode}
+use Rattle.walk.specs.Opening.{Opening}
+use Rattle.files.specs.Requests.{needs}
+use Rattle.entries.specs.Entries.{whereIs}
+use Rattle.entries.specs.Names.{isDots, storable}
+use Rattle.acts.specs.Answers.{actedNo, actedValue, isDir, ofHead, fullLinks}
+use Rattle.acts.specs.Create.{createAnswer, createCard}
+use Rattle.acts.specs.Link.{linkAnswer, linkCard}
+use Rattle.acts.specs.Unlink.{namedBy, notEmpty, unlinkAnswer, unlinkCard}
+use Rattle.acts.specs.Move.{climbs, moveRoom, moveAnswer, moveCard}
+use Rattle.acts.specs.Format.{formatAnswer}
+use Rattle.acts.specs.declared.Acted.{Acted}
+use Rattle.acts.specs.declared.Acted.the-variants.{
+  Done,
+  NotDir,
+  IsDir,
+  BadName,
+  EntryExist,
+  EntryNotFound,
+  DirNotEmpty,
+  InvalidParam,
+  TooManyLinks,
+  NoDeviceSpace,
+}
+use Rattle.acts.proofs.UnlinkLaws.{done-is}
+use Rattle.sfs.specs.Said.{saidNo, saidValue, ifOpen, ofOpened, ofActed}
+use Rattle.sfs.specs.DirCalls.{Created, Linked, Unlinked, Moved, Formatted}
+use Rattle.sfs.specs.declared.said.Said.{Said}
+use Rattle.sfs.proofs.Opened.{ready}
+use Rattle.theory.specs.Frame.{Frame}
+use Rattle.theory.proofs.FreshCard.{format-fits, format-card, format-whole, fresh-bytes}
+use Rattle.theory.proofs.CreateTests.{CanCreate, CreateTests, create-6, create-8, create-9, create-12, create-13, create-14, create-done, create-tests}
+use Rattle.theory.proofs.CreateCard as C
+use Rattle.theory.proofs.CreateCard.{CreateDone}
+use Rattle.theory.proofs.LinkTests.{CanLink, LinkTests, link-6, link-8, link-9, link-7, link-13, link-14, link-done, link-tests}
+use Rattle.theory.proofs.LinkCard as L
+use Rattle.theory.proofs.LinkCard.{LinkDone}
+use Rattle.theory.proofs.UnlinkTests.{target}
+use Rattle.theory.proofs.UnlinkCard.{UnlinkDone, unlink-done}
+use Rattle.theory.proofs.MoveJudged.{judged}
+use Rattle.theory.proofs.MoveCard.{MoveDone, move-done}
+use Rattle.theory.proofs.Frame.{create-frame, link-frame, unlink-frame, move-frame}
+use Rattle.theory.proofs.Refusals.{said-acted, value-acted, format-refused}
+
+-- ---- a call that answers 0 has found the card open
+
+-- f is what the call says of an open card, and `out` what it leaves of it
+record Acting (img img′ out : List ℕ) (a b : ℕ) (f : Acted) (r : Said) : Type 0 where
+  first : Reached img a
+  second : Reached img b
+  done : actedNo f ≡ 0
+  value-is : saidValue r ≡ actedValue f
+  image-is : img′ ≡ out
+
+acting : {img img′ s s′ : List ℕ} {a b : ℕ} (f : Acted) (out : List ℕ) {r : Said} (o : Opened) → Opening img s s′ a b o
+    → r ≡ ifOpen o (ofActed f) (ofOpened o) → img′ ≡ ifOpen o out img → saidNo r ≡ 0 → Acting img img′ out a b f r
+acting f out (Open c) x e i z =
+    let y = ready c x refl in
+    record {
+      first = y .first;
+      second = y .second;
+      done = sym (said-acted f) ∙ ap saidNo (sym e) ∙ z;
+      value-is = ap saidValue e ∙ value-acted f;
+      image-is = i;
+    }
+acting f out ScratchShort x e i z = absurd (omega (arith, ap saidNo e))
+acting f out WrongFs x e i z = absurd (omega (arith, ap saidNo e))
+acting f out Damaged x e i z = absurd (omega (arith, ap saidNo e))
+acting f out NoInode x e i z = absurd (omega (arith, ap saidNo e))
+
+-- ---- create
+
+create-can : {img : List ℕ} {p : ℕ} {x : List ℕ} {k : ℕ} {a : Acted} → CreateTests img p x k a → actedNo a ≡ 0 → CanCreate img p x k
+create-can (create-6 _ e) z = absurd (omega (arith, ap actedNo e))
+create-can (create-8 _ _ e) z = absurd (omega (arith, ap actedNo e))
+create-can (create-9 _ _ _ _ _ e) z = absurd (omega (arith, ap actedNo e))
+create-can (create-12 _ _ e) z = absurd (omega (arith, ap actedNo e))
+create-can (create-13 _ _ _ e) z = absurd (omega (arith, ap actedNo e))
+create-can (create-14 _ _ _ _ e) z = absurd (omega (arith, ap actedNo e))
+create-can (create-done c _) z = c
+
+module _ {img img′ s s′ : List ℕ} (w : Whole img) (bytes : Bytes img) {p : ℕ} {x : List ℕ} {k : ℕ} {r : Said} (src : Bytes x)
+    (c : Created img img′ s s′ p x k r) (z : saidNo r ≡ 0) where
+  abbrev create-asked : Acted
+  create-asked = createAnswer (blocks img) img p x k
+
+  create-acts : Acting img img′ (createCard (blocks img) img p x k) p p create-asked r
+  create-acts = acting create-asked (createCard (blocks img) img p x k) (c .opened) (c .opening) (c .said) (c .image) z
+
+  pub created-done : CreateDone (w .inodes) img img′ p x k (saidValue r)
+  created-done =
+      rw (create-acts .image-is, create-acts .value-is)
+      (C.create w bytes p (create-acts .first) x src k (actedValue create-asked) (done-is create-asked (create-acts .done)))
+
+  pub created-frame : Frame (w .inodes) img img′ (p ∷ []) []
+  created-frame =
+      create-frame w (create-can (create-tests (w .sound) p (reached-listed img w p (create-acts .first)) x k) (create-acts .done) .name .dir) created-done
+
+-- ---- link
+
+link-can : {img : List ℕ} {p : ℕ} {x : List ℕ} {c : ℕ} {a : Acted} → LinkTests img p x c a → actedNo a ≡ 0 → CanLink img p x c × (a ≡ Done 0)
+link-can (link-6 _ e) z = absurd (omega (arith, ap actedNo e))
+link-can (link-8 _ _ e) z = absurd (omega (arith, ap actedNo e))
+link-can (link-9 _ _ _ _ _ e) z = absurd (omega (arith, ap actedNo e))
+link-can (link-7 _ _ e) z = absurd (omega (arith, ap actedNo e))
+link-can (link-13 _ _ _ e) z = absurd (omega (arith, ap actedNo e))
+link-can (link-14 _ _ _ _ e) z = absurd (omega (arith, ap actedNo e))
+link-can (link-done c e) z = (c, e)
+
+module _ {img img′ s s′ : List ℕ} (w : Whole img) (bytes : Bytes img) {p : ℕ} {x : List ℕ} {n : ℕ} {r : Said} (src : Bytes x)
+    (c : Linked img img′ s s′ p x n r) (z : saidNo r ≡ 0) where
+  link-acts : Acting img img′ (linkCard (blocks img) img p x n) p n (linkAnswer img p x n) r
+  link-acts = acting (linkAnswer img p x n) (linkCard (blocks img) img p x n) (c .opened) (c .opening) (c .said) (c .image) z
+
+  link-fine : CanLink img p x n × (linkAnswer img p x n ≡ Done 0)
+  link-fine =
+      link-can (link-tests (w .sound) p (reached-listed img w p (link-acts .first)) x n (reached-listed img w n (link-acts .second))) (link-acts .done)
+
+  pub linked-done : LinkDone (w .inodes) img img′ p x n
+  linked-done = rw (link-acts .image-is) (L.link w bytes p (link-acts .first) x src n (link-acts .second) (link-fine .1))
+
+  pub linked-frame : Frame (w .inodes) img img′ (p ∷ n ∷ []) []
+  linked-frame = link-frame w (link-fine .0 .name .dir) linked-done
+
+-- ---- unlink and move answer no value
+
+record Plain (a : Acted) : Type 0 where
+  value-none : actedValue a ≡ 0
+
+plain-done : (a : Acted) → Plain a → actedNo a ≡ 0 → a ≡ Done 0
+plain-done a e z = done-is a z ∙ ap Done (e .value-none)
+
+says : (a : Acted) → actedValue a ≡ 0 → Plain a
+says a e = record { value-none = e }
+
+plain-pick : (b : Bool) {x y : Acted} → Plain x → Plain y → Plain (pick b x y)
+plain-pick true e f = e
+plain-pick false e f = f
+
+plain-head : (d : Decoded) {x : Acted} {f : Head → Acted} → Plain x → ((h : Head) → Plain (f h)) → Plain (ofHead d x f)
+plain-head BadKind e g = e
+plain-head (Good h) e g = g h
+
+unlink-plain : (img : List ℕ) (p : ℕ) (x : List ℕ) → Plain (unlinkAnswer img p x)
+unfolding unlinkAnswer
+unlink-plain img p x =
+    plain-head (decoded img p) (says NotDir refl)
+    (λ h.
+    plain-pick (isDir (h .«type_»))
+    (plain-pick (isDots x) (says IsDir refl)
+    (plain-pick (ltb (whereIs img p x) (entries img p))
+    (plain-head (decoded img (namedBy img p x)) (says EntryNotFound refl)
+    (λ g. plain-pick (notEmpty g) (says DirNotEmpty refl) (says (Done 0) refl)))
+    (says EntryNotFound refl)))
+    (says NotDir refl))
+
+room-plain : (nb : ℕ) (img : List ℕ) (c : ℕ) (g : Head) (t : ℕ) (h : Head) → Plain (moveRoom nb img c g t h)
+unfolding moveRoom
+room-plain nb img c g t h =
+    plain-pick (isDir (g .«type_»))
+    (plain-pick (climbs img c t nb) (says InvalidParam refl) (plain-pick (eqb (h .nlinks) fullLinks) (says TooManyLinks refl) room))
+    room
+  where
+    room : Plain (pick (ltb (unused img) (needs (h .blocks) (h .size + 260))) NoDeviceSpace (Done 0))
+    room = plain-pick (ltb (unused img) (needs (h .blocks) (h .size + 260))) (says NoDeviceSpace refl) (says (Done 0) refl)
+
+move-plain : (nb : ℕ) (img : List ℕ) (p : ℕ) (old : List ℕ) (t : ℕ) (new : List ℕ) → Plain (moveAnswer nb img p old t new)
+unfolding moveAnswer
+move-plain nb img p old t new =
+    plain-head (decoded img p) (says NotDir refl)
+    (λ s.
+    plain-pick (isDir (s .«type_»))
+    (plain-pick (isDots old) (says IsDir refl)
+    (plain-head (decoded img t) (says NotDir refl)
+    (λ h.
+    plain-pick (isDir (h .«type_»))
+    (plain-pick (storable new)
+    (plain-pick (ltb (whereIs img t new) (entries img t)) (says EntryExist refl)
+    (plain-pick (ltb (whereIs img p old) (entries img p))
+    (plain-pick (eqb p t) (says (Done 0) refl)
+    (plain-head (decoded img (namedBy img p old)) (says EntryNotFound refl) (λ g. room-plain nb img (namedBy img p old) g t h)))
+    (says EntryNotFound refl)))
+    (says BadName refl))
+    (says NotDir refl))))
+    (says NotDir refl))
+
+module _ {img img′ s s′ : List ℕ} (w : Whole img) (bytes : Bytes img) {p : ℕ} {x : List ℕ} {r : Said} (c : Unlinked img img′ s s′ p x r)
+    (z : saidNo r ≡ 0) where
+  unlink-acts : Acting img img′ (unlinkCard (blocks img) img p x) p p (unlinkAnswer img p x) r
+  unlink-acts = acting (unlinkAnswer img p x) (unlinkCard (blocks img) img p x) (c .opened) (c .opening) (c .said) (c .image) z
+
+  pub unlinked-done : UnlinkDone (w .inodes) img img′ p x
+  unlinked-done =
+      rw (unlink-acts .image-is) (unlink-done w bytes p (unlink-acts .first) x (plain-done (unlinkAnswer img p x) (unlink-plain img p x) (unlink-acts .done)))
+
+  pub unlinked-frame : Frame (w .inodes) img img′ (p ∷ namedBy img p x ∷ []) []
+  unlinked-frame =
+      let t = target w p (unlink-acts .first) x (unlink-acts .done) in
+      unlink-frame w (t .1 .parent) (t .1 .reached) unlinked-done
+
+module _ {img img′ s s′ : List ℕ} (w : Whole img) (bytes : Bytes img) {p : ℕ} {old : List ℕ} {t : ℕ} {new : List ℕ} {r : Said} (src : Bytes new)
+    (c : Moved img img′ s s′ p old t new r) (z : saidNo r ≡ 0) where
+  abbrev move-asked : Acted
+  move-asked = moveAnswer (blocks img) img p old t new
+
+  move-acts : Acting img img′ (moveCard (blocks img) img p old t new) p t move-asked r
+  move-acts = acting move-asked (moveCard (blocks img) img p old t new) (c .opened) (c .opening) (c .said) (c .image) z
+
+  move-fine : move-asked ≡ Done 0
+  move-fine = plain-done move-asked (move-plain (blocks img) img p old t new) (move-acts .done)
+
+  pub moved-done : MoveDone (w .inodes) img img′ p old (whereIs img p old) t (namedBy img p old) new
+  moved-done = rw (move-acts .image-is) (move-done w bytes p t old new src (move-acts .first) (move-acts .second) move-fine)
+
+  pub moved-frame : Frame (w .inodes) img img′ (p ∷ t ∷ namedBy img p old ∷ []) []
+  moved-frame =
+      let j = judged w p t old new (move-acts .first) (move-acts .second) move-fine in
+      move-frame (w .sound) (j .p-dir) (j .t-dir) moved-done
+
+-- ---- format
+
+module _ {img img′ : List ℕ} {space : ℕ} {r : Said} (c : Formatted img img′ space r) where
+  acted-none : saidNo r ≡ 0 → actedNo (formatAnswer (length img) space) ≡ 0
+  acted-none z = sym (said-acted (formatAnswer (length img) space)) ∙ ap saidNo (sym (c .said)) ∙ z
+
+  pub formatted-whole : saidNo r ≡ 0 → Whole img′
+  formatted-whole z = subst Whole (sym (c .image)) (format-whole img space (acted-none z))
+
+  -- done or refused
+  pub formatted-bytes : Bytes img → Bytes img′
+  formatted-bytes b = go (ℕ-discrete (saidNo r) 0)
+    where
+      go : Dec (saidNo r ≡ 0) → Bytes img′
+      go (yes z) =
+          let f = format-fits (length img) space (acted-none z) in
+          subst Bytes (sym (c .image ∙ format-card img space f)) (fresh-bytes img (blocksFor space) (f .few) (f .many) (f .long) b)
+      go (no d) = subst Bytes (sym (format-refused c d)) b
