@@ -1,9 +1,9 @@
-//! Measures the parts of a benchmark's cases. What the program prints depends on its first word:
+//! Measures the parts of a benchmark's cases. What the program prints depends on its word:
 //!
-//!     time             CASE|PART|NANOSECONDS, the least of several turns
-//!     marks            CASE|PART on standard error, with a call of getppid before and after the part: see insn.rs
-//!     list             CASE|PART alone
-//!     one CASE PART    nothing; the part is run once, in the function `measured`, for counting by that name
+//!     time     CASE|PART|NANOSECONDS, the least of several turns
+//!     marks    CASE|PART on standard error, then three calls of getppid with nothing between the first two and the part
+//!              between the last two: see insn.rs
+//!     each     CASE|PART of each call of the function `measured`, in their order, for a profiler that counts by that name
 
 use std::collections::BTreeMap;
 use std::time::{Duration, Instant};
@@ -11,8 +11,7 @@ use std::time::{Duration, Instant};
 enum How {
     Time,
     Marks,
-    List,
-    One(String, String),
+    Each,
 }
 
 pub struct Measure {
@@ -29,10 +28,9 @@ impl Measure {
         let how = match words[..] {
             ["time"] => How::Time,
             ["marks"] => How::Marks,
-            ["list"] => How::List,
-            ["one", case, part] => How::One(case.to_string(), part.to_string()),
+            ["each"] => How::Each,
             _ => {
-                eprintln!("usage: time | marks | list | one CASE PART");
+                eprintln!("usage: time | marks | each");
                 std::process::exit(2);
             }
         };
@@ -47,17 +45,9 @@ impl Measure {
         }
     }
 
-    /// Whether there is anything to do for a case: it may be costly to make.
-    pub fn wants(&self, case: &str) -> bool {
-        match &self.how {
-            How::One(wanted, _) => wanted == case,
-            _ => true,
-        }
-    }
-
     pub fn part(&mut self, case: &str, part: &str, work: &mut dyn FnMut()) {
         let name = format!("{}|{}", case, part);
-        match &self.how {
+        match self.how {
             How::Time => {
                 let started = Instant::now();
                 measured(work);
@@ -68,13 +58,12 @@ impl Measure {
             How::Marks => {
                 eprintln!("part {}", name);
                 mark();
+                measured(&mut || ());
+                mark();
                 measured(work);
                 mark();
             }
-            How::List => work(),
-            How::One(_, wanted) if wanted == part => measured(work),
-            // The parts after it may look at what it did.
-            How::One(..) => work(),
+            How::Each => measured(work),
         }
         if !self.parts.contains(&name) {
             self.parts.push(name);
@@ -85,8 +74,8 @@ impl Measure {
         for name in &self.parts {
             match self.how {
                 How::Time => println!("{}|{}", name, self.least[name].as_nanos()),
-                How::List => println!("{}", name),
-                _ => (),
+                How::Marks => (),
+                How::Each => println!("{}", name),
             }
         }
     }

@@ -1,5 +1,6 @@
 #!/usr/bin/env bash
-# What the library's calls cost beside plain ones in Rust: tables of cases.
+# What the library's calls cost beside plain ones in Rust and beside the unchanged Rust: one table, which also goes into
+# docs/PERFORMANCE.md where instructions of the library were counted.
 #
 #   run.sh               for x86-64, with the archive that `rt staticlib sfs` makes (SFS_LIB: another one)
 #   run.sh --stand-in    with the plain ones themselves in the archive's place: the ratios are then near 1
@@ -10,7 +11,7 @@
 # the machine does; without either, times in one run are compared. The first line says which.
 #
 # The emulator is the baseline processor that the library is compiled for, on which the C library's copies have vectors of
-# 16 bytes too (SFS_CPU: another one, as max,-erms with vectors of 32).
+# 16 bytes too (SFS_CPU: another one, as max,-erms with vectors of 32; its table is printed alone).
 set -euo pipefail
 
 here=$(cd "$(dirname "${BASH_SOURCE[0]}")" && pwd)
@@ -25,11 +26,11 @@ out=$root/target/bench/$place
 mkdir -p "$out/lib"
 # Measured as it is used: sums are not watched.
 flags=()
-take_archive "$root/tests/files/standin.rs"
+take_archive "$root/tests/standin/lib.rs"
 compile kit "$root/tests/check/kit.rs" --crate-type rlib --out-dir "$out/lib"
-
-compile bench_check "$here/check/main.rs" --extern kit -o "$out/bench_check"
-compile bench_files "$here/files/main.rs" --extern kit -o "$out/bench_files"
+"$root/tests/oracle/build.sh" "$root/target/oracle/$place" release
+compile bench "$here/main.rs" --extern kit -L "$root/target/oracle/$place/release" --extern oracle --extern rcore_fs \
+    --extern rcore_fs_sfs --extern by_number -o "$out/bench"
 
 # Whether the emulator counts. Its plugin is a library of this machine, so it is built without the target's flags.
 # Without words the program says how it is used and ends with 2: then it was run.
@@ -37,7 +38,7 @@ counting() {
     local status=0
     "${rustc[0]}" --edition 2021 --crate-name insn --crate-type cdylib -C opt-level=2 -o "$out/libinsn.so" \
         "$here/insn.rs" 2>"$out/insn.log" || return 1
-    "${run[@]}" -plugin "file=$out/libinsn.so" "$out/bench_check" 2>>"$out/insn.log" || status=$?
+    "${run[@]}" -plugin "file=$out/libinsn.so" "$out/bench" 2>>"$out/insn.log" || status=$?
     [ $status -eq 2 ]
 }
 
@@ -53,41 +54,43 @@ elif [ -z "$RUN" ] && command -v valgrind >/dev/null; then
     unit="instructions, counted by valgrind"
 fi
 
-# measure PROGRAM: lines CASE|PART|NUMBER
+# Lines CASE|PART|NUMBER
 measure() {
-    local name part
+    local name n
     case $how in
     marks)
-        "${run[@]}" -plugin "file=$out/libinsn.so" "$1" marks 2>"$out/marks"
-        # Two marks a part: before it and after.
-        awk '/^part / { name = substr($0, 6); first = 1 }
-             /^mark / { if (first) { start = $2; first = 0 } else printf "%s|%d\n", name, $2 - start }' "$out/marks"
+        "${run[@]}" -plugin "file=$out/libinsn.so" "$out/bench" marks 2>"$out/marks" || { cat "$out/marks" >&2 && return 1; }
+        # Three marks a part. What lies between the first two is the cost of marking.
+        awk '/^part / { name = substr($0, 6); marks = 0 }
+             /^mark / { at[++marks] = $2; if (marks == 3) printf "%s|%d\n", name, at[3] - at[2] - (at[2] - at[1]) }' \
+            "$out/marks"
         ;;
     valgrind)
-        "$1" list | while IFS='|' read -r name part; do
-            printf '%s|%s|' "$name" "$part"
-            valgrind --tool=callgrind --callgrind-out-file=/dev/null --toggle-collect=measured "$1" one "$name" "$part" \
-                2>&1 | awk '/Collected/ { print $NF }'
-        done
+        # A dump a part, numbered from 1 on.
+        rm -f "$out/dump".*
+        valgrind --tool=callgrind --callgrind-out-file="$out/dump" --toggle-collect=measured --dump-after=measured \
+            "$out/bench" each >"$out/parts" 2>"$out/valgrind.log" || { cat "$out/valgrind.log" >&2 && return 1; }
+        n=0
+        while read -r name; do
+            n=$((n + 1))
+            awk -v name="$name" '/^totals:/ { print name "|" $2 }' "$out/dump.$n"
+        done <"$out/parts"
         ;;
-    time) "${run[@]}" "$1" time ;;
+    time) "${run[@]}" "$out/bench" time ;;
     esac
 }
 
-# The lines of a case become one row, in the order of the cases.
-rows='{ if (!($1 in seen)) { seen[$1] = 1; order[++n] = $1 } value[$1, $2] = $3 }'
-
 echo "bench: $unit"
+measure >"$out/measured"
+awk -f "$here/table.awk" "$out/measured" | tee "$out/table"
 
-printf '\n%-34s %12s %12s %7s\n' "the check" library plain ratio
-measure "$out/bench_check" | awk -F'|' "$rows"' END { for (i = 1; i <= n; i++) { c = order[i]
-    printf "%-34s %12d %12d %7.2f\n", c, value[c, "library"], value[c, "plain"], value[c, "library"] / value[c, "plain"] } }'
-
-# "act" is the library's call less its check on the same card, measured apart; "plain" is the plain act without a check.
-# "whole" is the library's call by the plain act and the plain check together.
-printf '\n%-34s %12s %12s %12s %12s %7s %12s %7s %7s\n' "files, 16 MiB" call check act plain ratio copy ratio whole
-measure "$out/bench_files" | awk -F'|' "$rows"' END { for (i = 1; i <= n; i++) { c = order[i]
-    call = value[c, "call"]; act = call - value[c, "check"]; plain = value[c, "plain"]; copy = value[c, "copy"]
-    printf "%-34s %12d %12d %12d %12d %7.2f", c, call, value[c, "check"], act, plain, act / plain
-    if (copy) printf " %12d %7.2f", copy, act / copy; else printf " %12s %7s", "-", "-"
-    printf " %7.2f\n", call / (plain + value[c, "opening"]) } }'
+# The table stands in the document between two lines of its own.
+if [ "$how" != time ] && [ -z "${SFS_CPU:-}" ] && ! asked --stand-in && ! asked --host; then
+    document=$root/docs/PERFORMANCE.md
+    awk -v table="$out/table" '/^<!-- end of the table -->$/ { inside = 0 }
+        !inside { print }
+        /^<!-- table of bench\/run.sh -->$/ { inside = 1; while ((getline line < table) > 0) print line }' \
+        "$document" >"$out/document"
+    cp "$out/document" "$document"
+    echo "bench: the table is in docs/PERFORMANCE.md"
+fi

@@ -1,6 +1,6 @@
 # shellcheck shell=bash disable=SC2034,SC2154
-# Sourced by the scripts that put faults into a stand-in, one at a time, and see whether the tests notice them. They
-# use `out`. A fault is a line: the text on the left of ==> for the one on the right, ";;" between several, \n for the
+# Sourced by the scripts that put faults into the stand-in, one at a time, and see whether the tests notice them. They
+# use `root` and `out`. A fault is a line: the text on the left of ==> for the one on the right, ";;" between several, \n for the
 # end of a line.
 
 found=0
@@ -21,6 +21,14 @@ edited() {
             exit 1
         fi
     done
+}
+
+# standin_with NAME TEXT: the stand-in as the archive, with this text in that file of tests/standin and the others as they are
+standin_with() {
+    mkdir -p "$out/standin"
+    cp "$root/tests/standin/"*.rs "$out/standin/"
+    printf '%s\n' "$2" >"$out/standin/$1.rs"
+    make_standin "$out/standin/lib.rs"
 }
 
 # tried COMMAND..: `status` is how it ended. The inner shell keeps the notice of an abort out of what is printed here.

@@ -7,7 +7,7 @@ here=$(cd "$(dirname "${BASH_SOURCE[0]}")" && pwd)
 # shellcheck source=tools.sh
 . "$here/tools.sh"
 
-tests=${OUTSIDE:-oracle check files dirs cli}
+tests=${OUTSIDE:-oracle check files dirs calls replay cli}
 failed=0
 run() {
     echo "outside: $*"

@@ -1,5 +1,5 @@
 #!/usr/bin/env bash
-# Do these tests notice a fault? Each line below is one in the stand-in (bench/check/plain.rs), as tests/faults.sh says.
+# Do these tests notice a fault? Each line below is one in tests/standin/check.rs, as tests/faults.sh says.
 # check_fuzz must find every one; where it does not, that is printed.
 # By the rustc of PATH, for this machine; some three minutes. CHECK_SECONDS: time for one fault. An argument: only
 # the faults that hold this text.
@@ -14,19 +14,17 @@ read_options "--host" --host
 use_tools
 out=$root/target/check/faults
 rm -rf "$out"
-mkdir -p "$out/tests/check" "$out/bench/check" "$out/lib"
-cp "$here"/*.rs "$out/tests/check/"
-plain=$(cat "$root/bench/check/plain.rs")
+mkdir -p "$out/lib"
+plain=$(cat "$here/../standin/check.rs")
 
 # A fault leaves some things unused.
 flags=(--cap-lints allow)
 compile kit "$here/kit.rs" --crate-type rlib --out-dir "$out/lib"
 fuzz=("$out/check_fuzz" --seconds "${CHECK_SECONDS:-20}" --cases 60000 --save "$out")
 
-# put TEXT: the tests, with this as the stand-in
+# put TEXT: the tests, with this as the stand-in's check
 put() {
-    printf '%s\n' "$1" >"$out/bench/check/plain.rs"
-    make_standin "$out/tests/check/standin.rs"
+    standin_with check "$1"
     compile check_fuzz "$here/main.rs" --extern kit -o "$out/check_fuzz"
 }
 
@@ -71,7 +69,7 @@ if !expected || known { ==> if !expected {
 if !expected || known { ==> if !expected || (known && k > 200) {
 usize::from(head.links) == 2 + subdirectories ==> usize::from(head.links) >= 2 + subdirectories
 } else if directory { ==> } else if directory && false {
-return if len == 0 { Err(Damaged) } ==> return if len == 300 { Err(Damaged) }
+return if len == 0 { ==> return if len == 300 {
     }\n    Err(Damaged)\n}\n\n/// The two ==> }\n    Ok((bytes, hash))\n}\n\n/// The two
 let mark = (hash >> 32) as u32; ==> let mark = 0; ;; & self.mask;\n        loop ==> & 3;\n        loop ;; && entry[4 + name.len()] == 0 ==> && entry[4] != 0
 let mark = (hash >> 32) as u32; ==> let mark = 0; ;; & self.mask;\n        loop ==> & 3;\n        loop ;; entry[4..].starts_with(name) ==> entry[4..].starts_with(&name[..name.len() - 1])

@@ -1,16 +1,9 @@
-//! The check of libsfs.a, as sfs.h declares it.
+//! The check of libsfs.a.
 
-#[link(name = "sfs", kind = "static")]
-extern "C" {
-    pub fn sfs_check(
-        image: *const u8,
-        image_len: usize,
-        scratch: *mut u32,
-        scratch_len: usize,
-        blocks: *mut u32,
-        unused: *mut u32,
-    ) -> u32;
-}
+#[path = "../files/library.rs"]
+mod raw;
+
+pub use raw::sfs_check;
 
 /// Status, blocks and unused count.
 pub fn check(image: &[u8], scratch: &mut [u32]) -> (u32, u32, u32) {

@@ -2,7 +2,7 @@
 # The library's check beside the rules of document 01: made and damaged cards, hostile ones, and the examples.
 #
 #   run.sh               for x86-64, by the tools of tests/tools.sh, with the archive that `rt staticlib sfs` makes
-#   run.sh --stand-in    with a plain checker in the archive's place, to try the tests themselves
+#   run.sh --stand-in    with the plain Rust of tests/standin in the archive's place, to try the tests themselves
 #   run.sh --host        with the stand-in, by the rustc of PATH, for this machine
 #
 # SFS_LIB    another archive                            CHECK_SEED     another seed than 1
@@ -19,7 +19,7 @@ read_options "--stand-in --host" "$@"
 use_tools
 out=$root/target/check/$place
 mkdir -p "$out/lib" "$out/examples"
-take_archive "$here/standin.rs"
+take_archive "$here/../standin/lib.rs"
 
 compile kit "$here/kit.rs" --crate-type rlib --out-dir "$out/lib"
 compile check_fuzz "$here/main.rs" --extern kit -o "$out/check_fuzz"

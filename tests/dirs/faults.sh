@@ -14,7 +14,7 @@ read_options "--host" --host
 use_tools
 out=$root/target/dirs/faults
 rm -rf "$out"
-mkdir -p "$out/standin" "$out/lib"
+mkdir -p "$out/lib"
 
 # A fault leaves some things unused.
 flags=(--cap-lints allow)
@@ -24,11 +24,9 @@ compile kit "$here/../check/kit.rs" --crate-type rlib --out-dir "$out/lib"
 test=("$out/dirs_test" --seconds "${DIRS_SECONDS:-10}")
 [ -z "${DIRS_ONLY:-}" ] || test+=(--only "$DIRS_ONLY")
 
-# put FILE TEXT: the tests, with this in that file of the stand-in and the others as they are
+# put NAME TEXT: the tests, with this in that file of the stand-in
 put() {
-    cp "$here/../standin/"*.rs "$out/standin/"
-    printf '%s\n' "$2" >"$out/standin/$1.rs"
-    make_standin "$out/standin/lib.rs"
+    standin_with "$1" "$2"
     compile dirs_test "$here/main.rs" --extern kit -L "$oracle/release" --extern oracle -o "$out/dirs_test"
 }
 

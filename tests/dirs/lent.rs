@@ -4,7 +4,7 @@ use crate::decide::Values;
 use crate::library::*;
 use kit::plan::ENTRY;
 use kit::room::Room;
-use oracle::Call;
+use oracle::{Call, UNREAD};
 
 /// The card stays lent from one call to the next; scratch, names, data and results are lent for each.
 pub struct Lent {
@@ -12,7 +12,8 @@ pub struct Lent {
     scratch: Room<u32>,
     /// The names, or a write's data.
     given: [Room<u8>; 2],
-    entry: Room<u8>,
+    /// An entry, or a read's buffer.
+    bytes: Room<u8>,
     pattern: u32,
 }
 
@@ -29,7 +30,7 @@ struct At {
     scratch: *mut u32,
     words: usize,
     given: [*const u8; 2],
-    entry: *mut u8,
+    bytes: *mut u8,
     /// Every other word is a result; those between are guards.
     results: *mut u32,
 }
@@ -43,7 +44,7 @@ impl At {
 impl Lent {
     pub fn new(image: usize, scratch: usize, data: usize) -> Lent {
         let given = [Room::new(data), Room::new(data)];
-        Lent { image: Room::new(image), scratch: Room::new(scratch), given, entry: Room::new(ENTRY), pattern: 1 }
+        Lent { image: Room::new(image), scratch: Room::new(scratch), given, bytes: Room::new(data), pattern: 1 }
     }
 
     /// A new card. `pattern`, which is not 0, is what guards and results hold before each call.
@@ -61,13 +62,17 @@ impl Lent {
         let (first, second) = given(call);
         let guard = self.pattern as u8;
         let mut results = [self.pattern; 11];
+        let before = match call {
+            Call::Read { len, .. } => vec![UNREAD; *len],
+            _ => vec![guard; ENTRY],
+        };
         let at = At {
             image: self.image.lent().as_mut_ptr(),
             len: self.image.lent().len(),
             scratch: self.scratch.lend(scratch, self.pattern, last),
             words: scratch.len(),
             given: [self.given[0].lend(first, guard, last), self.given[1].lend(second, guard, last)],
-            entry: self.entry.lend(&[guard; ENTRY], guard, last),
+            bytes: self.bytes.lend(&before, guard, last),
             results: results.as_mut_ptr(),
         };
         let status = unsafe { put(&at, call) };
@@ -86,7 +91,8 @@ impl Lent {
     fn values(&mut self, call: &Call, results: &[u32; 11]) -> Result<Values, &'static str> {
         let count = match call {
             Call::Metadata { .. } => 4,
-            Call::Create { .. } | Call::Find { .. } | Call::Write { .. } => 1,
+            Call::Counts => 2,
+            Call::Create { .. } | Call::Find { .. } | Call::Read { .. } | Call::Write { .. } => 1,
             _ => 0,
         };
         let guards = (0..11).filter(|i| i % 2 == 1 || *i < 2 || *i >= 2 + 2 * count);
@@ -97,9 +103,9 @@ impl Lent {
         for i in 0..count {
             values.words[i] = results[2 + 2 * i];
         }
-        let entry = self.entry.back().ok_or("wrote beside the entry")?;
-        if matches!(call, Call::Entry { .. }) {
-            values.entry = entry.to_vec();
+        let bytes = self.bytes.back().ok_or("wrote beside the entry or buffer")?;
+        if matches!(call, Call::Entry { .. } | Call::Read { .. }) {
+            values.bytes = bytes.to_vec();
         }
         Ok(values)
     }
@@ -111,9 +117,13 @@ impl Lent {
         Ok(status)
     }
 
-    pub fn entry_name(&mut self, entry: &[u8]) -> usize {
-        let at = self.entry.lend(entry, self.pattern as u8, true);
-        unsafe { sfs_entry_name(at, entry.len()) }
+    pub fn entry_name(&mut self, entry: &[u8]) -> Result<usize, &'static str> {
+        let at = self.bytes.lend(entry, self.pattern as u8, true);
+        let len = unsafe { sfs_entry_name(at, entry.len()) };
+        if self.bytes.back() != Some(entry) {
+            return Err("changed the entry, or wrote beside it");
+        }
+        Ok(len)
     }
 }
 
@@ -132,6 +142,10 @@ unsafe fn put(at: &At, call: &Call) -> u32 {
     let [first, second] = at.given;
     let one = at.result(0);
     match call {
+        Call::Counts => sfs_check(image, len, scratch, words, one, at.result(1)),
+        Call::Read { inode, offset, len: wanted } => {
+            sfs_read(image, len, scratch, words, *inode, *offset, at.bytes, *wanted, one)
+        }
         Call::Metadata { inode } => {
             let (size, blocks, links) = (at.result(1), at.result(2), at.result(3));
             sfs_metadata(image, len, scratch, words, *inode, one, size, blocks, links)
@@ -147,7 +161,7 @@ unsafe fn put(at: &At, call: &Call) -> u32 {
             sfs_move(image, len, scratch, words, *dir, first, old.len(), *target, second, new.len())
         }
         Call::Find { dir, name } => sfs_find(image, len, scratch, words, *dir, first, name.len(), one),
-        Call::Entry { dir, index } => sfs_entry(image, len, scratch, words, *dir, *index, at.entry),
+        Call::Entry { dir, index } => sfs_entry(image, len, scratch, words, *dir, *index, at.bytes),
         _ => panic!("no call of these tests: {:?}", call),
     }
 }

@@ -20,6 +20,8 @@ mod library;
 #[allow(dead_code)]
 #[path = "../files/look.rs"]
 mod look;
+mod mend;
+#[allow(dead_code)]
 mod pair;
 mod tree;
 
@@ -29,12 +31,12 @@ use pair::Pair;
 use std::sync::atomic::Ordering;
 
 fn main() {
-    let options = Options::read(35).unwrap_or_else(|error| {
+    let options = Options::read("day", 35).unwrap_or_else(|error| {
         eprintln!("dirs_test: {}", error);
         std::process::exit(2);
     });
     room::name_case_of_touch();
-    let mut pair = Pair::new(options.seed);
+    let mut pair = Pair::new(options.seed, pair::MOST);
     match run(&options, &mut pair) {
         Ok(told) => {
             for ((call, status), times) in &pair.tally {
@@ -59,7 +61,7 @@ fn run(options: &Options, pair: &mut Pair) -> Result<String, String> {
         told.push(format!("{} edges", edges::run(pair, options.seed, options.long)?));
         told.push(format!("{} crossings", crossing::run(pair, options.seed)?));
     }
-    let days = options.run_days(|day| days::run(pair, day, options.seed))?;
+    let days = options.run_each(|day| days::run(pair, day, options.seed))?;
     told.push(format!("{} days", days));
     Ok(told.join(", "))
 }

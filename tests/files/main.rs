@@ -23,7 +23,7 @@ use pair::Pair;
 use std::sync::atomic::Ordering;
 
 fn main() {
-    let options = Options::read(40).unwrap_or_else(|error| {
+    let options = Options::read("day", 40).unwrap_or_else(|error| {
         eprintln!("files_test: {}", error);
         std::process::exit(2);
     });
@@ -60,7 +60,7 @@ fn run(options: &Options, pair: &mut Pair) -> Result<String, String> {
         told.push(format!("{} edges", edges.len()));
     }
     let mut returned = 0;
-    let days = options.run_days(|day| {
+    let days = options.run_each(|day| {
         returned += u64::from(days::returns(day));
         days::run(pair, day, options.seed)
     })?;

@@ -2,7 +2,7 @@
 # Read, write and resize of the library beside the unchanged Rust.
 #
 #   run.sh               for x86-64, by the tools of tests/tools.sh, with the archive that `rt staticlib sfs` makes
-#   run.sh --stand-in    with plain Rust in the archive's place, to try the tests themselves
+#   run.sh --stand-in    with the plain Rust of tests/standin in the archive's place, to try the tests themselves
 #   run.sh --host        with the stand-in, by the rustc of PATH, for this machine
 #   run.sh --long        every pair of lengths at the edges on both kinds of card, and an hour of random days
 #
@@ -19,7 +19,7 @@ read_options "--stand-in --host --long" "$@"
 use_tools
 out=$root/target/files/$place
 mkdir -p "$out/lib"
-take_archive "$here/standin.rs"
+take_archive "$here/../standin/lib.rs"
 compile kit "$here/../check/kit.rs" --crate-type rlib --out-dir "$out/lib"
 "$here/../oracle/build.sh" "$root/target/oracle/$place" release
 compile files_test "$here/main.rs" --extern kit -L "$root/target/oracle/$place/release" --extern oracle -o "$out/files_test"

@@ -47,7 +47,7 @@ moveRoom nb img c g t h =
     room : Acted
     room = pick (ltb (unused img) (needs (h .blocks) (h .size + 260))) NoDeviceSpace (Done 0)
 
--- the name `old` in p becomes `new` in t: "Rename in one directory: 12, 13 and 14 cannot arise"
+-- the name `old` in p becomes `new` in t; a rename in one directory takes no block and no link, so that 12, 13 and 14 cannot arise
 unfoldable pub moveAnswer : ℕ → List ℕ → ℕ → List ℕ → ℕ → List ℕ → Acted
 moveAnswer nb img p old t new =
     ofHead (decoded img p) NotDir

@@ -52,19 +52,19 @@ fn file_kind(kind: u32) -> FileType
 }
 
 // The lowest free block: the number that is answered. Nothing is taken yet.
-fn fresh_inode(image: &[u8], nb: u32) -> u32
+fn fresh_inode(image: &[u8], nb: u32) -> INodeId
     requires { ⌜ Sizes (now image) nb ⌝ }
-    ensures { λ r. ⌜ r ≡ freshInode nb (now (image .entry)) ⌝ }
+    ensures { λ r. ⌜ r .0 ≡ freshInode nb (now (image .entry)) ⌝ }
 {
     match freemap::find_free(image, BlockId(0), nb) {
-        Found::At(b) => b.0,
-        Found::Nothing => 0,
+        Found::At(b) => INodeId(b.0),
+        Found::Nothing => INodeId(0),
     }
 }
 
 // The inode's block, a directory's data block, and what the entry takes in a parent with head h.
 fn create_takes(h: Head, kind: u32) -> usize
-    requires { ⌜ (h .size + 260 ≤ 4294967295) ⌝ }
+    requires { ⌜ h .size + 260 ≤ 4294967295 ⌝ }
     ensures { λ r. ⌜ r ≡ createTakes h kind ⌝ }
 {
     let k = judging::entry_needs(h);
@@ -97,7 +97,8 @@ fn create_room(image: &[u8], nb: u32, h: Head, kind: u32) -> Acted
     if k > u as usize {
         return Acted::NoDeviceSpace;
     }
-    Acted::Done(fresh_inode(image, nb))
+    let i = fresh_inode(image, nb);
+    Acted::Done(i.0)
 }
 
 // 8, 9, 12, 13 and 14, in directory p with head h.

@@ -48,11 +48,12 @@ fn maps_for(nb: u32) -> u32
 }
 
 // The block of the root's entries.
-fn root_block(nb: u32) -> u32
+fn root_block(nb: u32) -> BlockId
     requires { ⌜ nb ≤ 32768 ⌝ }
-    ensures { λ r. ⌜ (r ≡ rootBlock nb) × (r ≤ 3) ⌝ }
+    ensures { λ r. ⌜ (r .0 ≡ rootBlock nb) × (r .0 ≤ 3) ⌝ }
 {
-    2 + maps_for(nb)
+    let b = 2 + maps_for(nb);
+    BlockId(b)
 }
 
 fn put_super(image: &mut [u8], nb: u32)
@@ -98,19 +99,19 @@ fn put_super(image: &mut [u8], nb: u32)
     let s = SuperBlock {
         magic: SFS_MAGIC,
         blocks: nb,
-        unused_blocks: nb - (r + 1),
+        unused_blocks: nb - (r.0 + 1),
         info,
         freemap_blocks: m,
     };
     superblock::encode(image, s);
 }
 
-// A bit for each block from b on.
-fn set_bits(image: &mut [u8], nb: u32, from: u32)
-    requires { ⌜ Sizes (now image) nb × (from ≤ nb) ⌝ }
-    ensures { λ _. ⌜ now (image .exit) ≡ turns (λ b x. setBit x b) from (nb - from) (now (image .entry)) ⌝ }
+// A bit for each block from `from` on.
+fn set_bits(image: &mut [u8], nb: u32, from: BlockId)
+    requires { ⌜ Sizes (now image) nb × (from .0 ≤ nb) ⌝ }
+    ensures { λ _. ⌜ now (image .exit) ≡ turns (λ b x. setBit x b) (from .0) (nb - from .0) (now (image .entry)) ⌝ }
 {
-    let mut b = from;
+    let mut b = from.0;
     while b < nb {
         freemap::set_bit(image, BlockId(b));
         b += 1;
@@ -124,7 +125,8 @@ fn put_map(image: &mut [u8], nb: u32)
     let m = maps_for(nb);
     let r = root_block(nb);
     words::zero(image, 8192, 4096 * m as usize);
-    set_bits(image, nb, r + 1);
+    let from = r.0 + 1;
+    set_bits(image, nb, BlockId(from));
 }
 
 fn root_record(nb: u32) -> DiskINode
@@ -136,7 +138,7 @@ fn root_record(nb: u32) -> DiskINode
     let e = d.set_nlinks(2);
     let f = e.set_size(520);
     let g = f.set_blocks(1);
-    g.set_direct(0, BlockId(b))
+    g.set_direct(0, b)
 }
 
 fn put_dots(image: &mut [u8], nb: u32)
@@ -144,7 +146,7 @@ fn put_dots(image: &mut [u8], nb: u32)
     ensures { λ _. ⌜ now (image .exit) ≡ copied (copied (now (image .entry)) (4096 * rootBlock nb) (entryOf 1 dot) 0 260) (4096 * rootBlock nb + 260) (entryOf 1 dots) 0 260 ⌝ }
 {
     let b = root_block(nb);
-    let at = 4096 * b as usize;
+    let at = 4096 * b.0 as usize;
     let d = entry::entry_of(INodeId(1), b".");
     let u = entry::entry_of(INodeId(1), b"..");
     words::copy(&d, 0, image, at, 260);

@@ -89,7 +89,7 @@ pub fn is_there(image: &[u8], n: INodeId, h: Head, x: &[u8]) -> usize
 
 // The blocks that one entry more takes, in a directory with head h.
 pub fn entry_needs(h: Head) -> usize
-    requires { ⌜ (h .size + 260 ≤ 4294967295) ⌝ }
+    requires { ⌜ h .size + 260 ≤ 4294967295 ⌝ }
     ensures { λ r. ⌜ r ≡ needs (h .blocks) (h .size + 260) ⌝ }
 {
     let a = h.blocks as usize;

@@ -150,16 +150,16 @@ pub fn take_inode(image: &[u8], u: &mut [u32], n: INodeId, h: Head) -> bool
 }
 
 // Whether pointer p is there exactly from lim blocks on.
-fn exact(lim: u32, c: u32, p: u32) -> bool
-    ensures { λ r. ⌜ When r (Exact lim c p) (Exact lim c p → ⊥) ⌝ }
+fn exact(lim: u32, c: u32, p: BlockId) -> bool
+    ensures { λ r. ⌜ When r (Exact lim c (p .0)) (Exact lim c (p .0) → ⊥) ⌝ }
 {
     if c < lim {
-        if p != 0 {
+        if p.0 != 0 {
             return false;
         }
         return true;
     }
-    if p == 0 {
+    if p.0 == 0 {
         return false;
     }
     true
@@ -172,10 +172,10 @@ pub fn head_ok(h: Head) -> bool
     if h.blocks as u64 != (h.size as u64 + 4095) / 4096 {
         return false;
     }
-    if !exact(12, h.blocks, h.indirect) {
+    if !exact(12, h.blocks, BlockId(h.indirect)) {
         return false;
     }
-    if !exact(1036, h.blocks, h.db_indirect) {
+    if !exact(1036, h.blocks, BlockId(h.db_indirect)) {
         return false;
     }
     true

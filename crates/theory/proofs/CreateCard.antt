@@ -40,7 +40,7 @@ use Rattle.theory.proofs.Append.{Appended}
 use Rattle.theory.proofs.EntryCounts.{EntryMore, found-more}
 use Rattle.theory.proofs.NameTests.{can-where}
 use Rattle.theory.proofs.NewInode.{Fresh, new-inode, next-lowest, second-lowest}
-use Rattle.theory.proofs.CreateTests.{CanCreate, CreateTests, create-6, create-8, create-9, create-12, create-13, create-14, create-done, create-tests}
+use Rattle.theory.proofs.CreateTests.{CanCreate, create-tests, create-can}
 use Rattle.theory.proofs.Creating.{
   append-there,
   listed-here,
@@ -327,21 +327,8 @@ module _ {img : List ℕ} (w : Whole img) (bytes : Bytes img) (p : ℕ) (r : Rea
 
 module _ {img : List ℕ} (w : Whole img) (bytes : Bytes img) (p : ℕ) (r : Reached img p) (x : List ℕ) (src : Bytes x) (k i : ℕ)
     (done : createAnswer (blocks img) img p x k ≡ Done i) where
-  tests : CreateTests img p x k (createAnswer (blocks img) img p x k)
-  tests = create-tests (w .sound) p (omega (arith, w .tree .all p r)) x k
-
   passed : CanCreate img p x k × (createAnswer (blocks img) img p x k ≡ Done (lowest img 0 (blocks img)))
-  passed = go tests
-    where
-      go : CreateTests img p x k (createAnswer (blocks img) img p x k)
-          → CanCreate img p x k × (createAnswer (blocks img) img p x k ≡ Done (lowest img 0 (blocks img)))
-      go (create-6 _ e) = absurd (omega (arith, ap actedNo (sym e ∙ done)))
-      go (create-8 _ _ e) = absurd (omega (arith, ap actedNo (sym e ∙ done)))
-      go (create-9 _ _ _ _ _ e) = absurd (omega (arith, ap actedNo (sym e ∙ done)))
-      go (create-12 _ _ e) = absurd (omega (arith, ap actedNo (sym e ∙ done)))
-      go (create-13 _ _ _ e) = absurd (omega (arith, ap actedNo (sym e ∙ done)))
-      go (create-14 _ _ _ _ e) = absurd (omega (arith, ap actedNo (sym e ∙ done)))
-      go (create-done c e) = (c, e)
+  passed = create-can (create-tests (w .sound) p (omega (arith, w .tree .all p r)) x k) (ap actedNo done)
 
   number : freshInode (blocks img) img ≡ i
   number =

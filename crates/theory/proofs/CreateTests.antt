@@ -1,5 +1,5 @@
 -- What create answers on a sound card, test by test: 6, 8, 9, 12, 13, 14; and that a refusal changes nothing. Assumes nothing.
-use mathlib.Core.Path.{_≡_, _∙_}
+use mathlib.Core.Path.{_≡_, sym, ap, _∙_}
 use mathlib.Core.Bool.{true, false}
 use mathlib.Core.List.{List}
 use mathlib.Core.Logic.{_≢_}
@@ -23,7 +23,8 @@ use Rattle.acts.specs.Answers.{actedNo, ifDone, fullLinks}
 use Rattle.acts.specs.Create.{knownKind, freshInode, createTakes, createRoom, createAnswer, made, createCard}
 use Rattle.acts.specs.declared.Acted.{Acted}
 use Rattle.acts.specs.declared.Acted.the-variants.{Done, NotDir, BadName, EntryExist, InvalidParam, TooManyLinks, NoDeviceSpace}
-use Rattle.theory.proofs.NameTests.{CanName, NameTests, not-dir, bad-name, exists, can, nameTests, name-tests, done-not, head-same}
+use Rattle.theory.proofs.NameTests.{CanName, NameTests, not-dir, bad-name, exists, can, nameTests, name-tests, name-exact}
+use Rattle.theory.proofs.Tests.{not-done, head-same}
 use Rattle.theory.proofs.NewInode.{next-lowest}
 
 -- 1, 2 and 3 are kinds
@@ -57,11 +58,13 @@ is-known k n =
     let b = n .high in
     rw (ne-eqb k 0 (λ e. omega arith), lt-ltb k 4 (omega arith))
 
-not-known : (k : ℕ) → (k ≡ 0 → ⊥) → 3 < k → knownKind k ≡ false
-not-known k d h = rw (ne-eqb k 0 d, le-ltb k 4 (omega arith))
-
-zero-known : (k : ℕ) → k ≡ 0 → knownKind k ≡ false
-zero-known k e = rw (eq-eqb k 0 e)
+unknown : (k : ℕ) → (Known k → ⊥) → knownKind k ≡ false
+unknown k n = go (ℕ-discrete k 0) (decLt k 4)
+  where
+    go : Dec (k ≡ 0) → Dec (k < 4) → knownKind k ≡ false
+    go (yes e) q = rw (eq-eqb k 0 e)
+    go (no e) (yes q) = absurd (n (record { low = omega arith; high = omega arith }))
+    go (no e) (no q) = rw (ne-eqb k 0 e, le-ltb k 4 (omega arith))
 
 -- ---- 13 and 14
 
@@ -94,15 +97,17 @@ module _ {img l : List ℕ} (s : Sound img l) (p : ℕ) (h : 0 < cnt p l) (x : L
       ∙ room-by (blocks img) img (headAt img p Dir) k (c .spare)
       ∙ rw (le-ltb (unused img) (createTakes (headAt img p Dir) k) (c .room), next-lowest img l s (omega (arith, c .room)))
 
+  full-none : Known k → (k ≡ 2 → links img p ≢ fullLinks) → unused img < createTakes (headAt img p Dir) k → rest (headAt img p Dir) ≡ NoDeviceSpace
+  full-none n d q =
+      rest-room n
+      ∙ room-by (blocks img) img (headAt img p Dir) k d
+      ∙ rw (lt-ltb (unused img) (createTakes (headAt img p Dir) k) q)
+
   by-room : CanName img p x → Known k → (k ≡ 2 → links img p ≢ fullLinks) → CreateTests img p x k (rest (headAt img p Dir))
   by-room c n d = go (decLt (unused img) (createTakes (headAt img p Dir) k))
     where
       go : Dec (unused img < createTakes (headAt img p Dir) k) → CreateTests img p x k (rest (headAt img p Dir))
-      go (yes q) =
-          create-14 c n d q
-          (rest-room n
-          ∙ room-by (blocks img) img (headAt img p Dir) k d
-          ∙ rw (lt-ltb (unused img) (createTakes (headAt img p Dir) k) q))
+      go (yes q) = create-14 c n d q (full-none n d q)
       go (no q) =
           let g : CanCreate img p x k = record { name = c; known = n; spare = d; room = omega arith } in
           create-done g (full-room g)
@@ -112,9 +117,12 @@ module _ {img l : List ℕ} (s : Sound img l) (p : ℕ) (h : 0 < cnt p l) (x : L
   by-links c n (yes e) (no f) = by-room c n (λ _. f)
   by-links c n (no e) f = by-room c n (λ q. absurd (e q))
 
+  bad-kind : CanName img p x → (Known k → ⊥) → CreateTests img p x k (rest (headAt img p Dir))
+  bad-kind c n = create-12 c n (rw (unknown k n))
+
   by-kind : CanName img p x → Dec (k ≡ 0) → Dec (3 < k) → CreateTests img p x k (rest (headAt img p Dir))
-  by-kind c (yes e) q = create-12 c (λ n. omega (arith, n .low)) (rw (zero-known k e))
-  by-kind c (no e) (yes q) = create-12 c (λ n. omega (arith, n .high)) (rw (not-known k e q))
+  by-kind c (yes e) q = bad-kind c (λ n. omega (arith, n .low))
+  by-kind c (no e) (yes q) = bad-kind c (λ n. omega (arith, n .high))
   by-kind c (no e) (no q) = by-links c (record { low = omega arith; high = omega arith }) (ℕ-discrete k 2) (ℕ-discrete (links img p) fullLinks)
 
   pub create-tests : CreateTests img p x k (createAnswer (blocks img) img p x k)
@@ -127,10 +135,33 @@ module _ {img l : List ℕ} (s : Sound img l) (p : ℕ) (h : 0 < cnt p l) (x : L
       go (exists d g j b q e) = create-9 d g j b q e
       go (can c e) = rw e (by-kind c (ℕ-discrete k 0) (decLt 3 k))
 
+  -- the causes exclude each other
+  pub create-exact : {a : Acted} → CreateTests img p x k a → a ≡ createAnswer (blocks img) img p x k
+  unfolding createAnswer
+  create-exact (create-6 d e) = name-exact x rest (s .inode p h) (not-dir d e)
+  create-exact (create-8 d n e) = name-exact x rest (s .inode p h) (bad-name d n e)
+  create-exact (create-9 d n j b q e) = name-exact x rest (s .inode p h) (exists d n j b q e)
+  create-exact (create-12 c n e) = name-exact x rest (s .inode p h) (can c (rw (unknown k n) e))
+  create-exact (create-13 c q f e) =
+      let n : Known k = record { low = omega arith; high = omega arith } in
+      name-exact x rest (s .inode p h) (can c (e ∙ sym (rest-room n ∙ room-links (blocks img) img (headAt img p Dir) k q f)))
+  create-exact (create-14 c n d q e) = name-exact x rest (s .inode p h) (can c (e ∙ sym (full-none n d q)))
+  create-exact (create-done c e) = name-exact x rest (s .inode p h) (can (c .name) (e ∙ sym (full-room c)))
+
+pub create-can : {img : List ℕ} {p : ℕ} {x : List ℕ} {k : ℕ} {a : Acted} → CreateTests img p x k a → actedNo a ≡ 0
+    → CanCreate img p x k × (a ≡ Done (lowest img 0 (blocks img)))
+create-can (create-6 _ e) z = absurd (omega (arith, ap actedNo e))
+create-can (create-8 _ _ e) z = absurd (omega (arith, ap actedNo e))
+create-can (create-9 _ _ _ _ _ e) z = absurd (omega (arith, ap actedNo e))
+create-can (create-12 _ _ e) z = absurd (omega (arith, ap actedNo e))
+create-can (create-13 _ _ _ e) z = absurd (omega (arith, ap actedNo e))
+create-can (create-14 _ _ _ _ e) z = absurd (omega (arith, ap actedNo e))
+create-can (create-done c e) z = (c, e)
+
 -- ---- the card
 
 pub create-refused : (nb : ℕ) (img : List ℕ) (p : ℕ) (x : List ℕ) (k : ℕ) → actedNo (createAnswer nb img p x k) ≢ 0 → createCard nb img p x k ≡ img
 unfolding createCard
 create-refused nb img p x k d =
     head-same (decoded img p) img (λ h. ifDone (createAnswer nb img p x k) (made nb p (recordWith img p h) x k img) img)
-    (λ h. done-not (createAnswer nb img p x k) (made nb p (recordWith img p h) x k img) img d)
+    (λ h. not-done (createAnswer nb img p x k) d (made nb p (recordWith img p h) x k img) img)

@@ -1,48 +1,28 @@
 -- What the statements of create, link, unlink, move and format say of a call that answers 0: what the definitions of the calls promise, and the frame that it
 -- leaves. Assumes nothing.
 use mathlib.Core.Path.{_≡_, refl, sym, ap, _∙_, subst}
-use mathlib.Core.Bool.{Bool, true, false}
 use mathlib.Core.List.{List, [], _∷_}
-use Prim.Native.Nat.{ℕ, _+_}
+use Prim.Native.Nat.{ℕ}
 use native.Mathlib.Omega.{arith}
 use native.Mathlib.Decide.{ℕ-discrete}
-use lib.Dec.{eqb, ltb}
 use lib.ListN.{length}
-use Rattle.words.specs.Words.{pick, Bytes}
-use Rattle.layout.specs.Super.{blocks, unused}
+use Rattle.words.specs.Words.{Bytes}
+use Rattle.layout.specs.Super.{blocks}
 use Rattle.layout.specs.Sizes.{blocksFor}
-use Rattle.layout.specs.Inode.{decoded}
-use Rattle.layout.specs.declared.inode.Head.{Head}
-use Rattle.layout.specs.declared.inode.Decoded.{Decoded}
-use Rattle.layout.specs.declared.inode.Decoded.the-variants.{Good, BadKind}
-use Rattle.card.specs.View.{entries}
 use Rattle.card.specs.Whole.{Reached, Whole}
 use Rattle.card.proofs.Tree.{reached-listed}
 use Rattle.walk.specs.declared.Opened.{Opened}
 use Rattle.walk.specs.declared.Opened.the-variants.{Open, ScratchShort, WrongFs, Damaged, NoInode}
 use Rattle.walk.specs.Opening.{Opening}
-use Rattle.files.specs.Requests.{needs}
 use Rattle.entries.specs.Entries.{whereIs}
-use Rattle.entries.specs.Names.{isDots, storable}
-use Rattle.acts.specs.Answers.{actedNo, actedValue, isDir, ofHead, fullLinks}
+use Rattle.acts.specs.Answers.{actedNo, actedValue}
 use Rattle.acts.specs.Create.{createAnswer, createCard}
 use Rattle.acts.specs.Link.{linkAnswer, linkCard}
-use Rattle.acts.specs.Unlink.{namedBy, notEmpty, unlinkAnswer, unlinkCard}
-use Rattle.acts.specs.Move.{climbs, moveRoom, moveAnswer, moveCard}
+use Rattle.acts.specs.Unlink.{namedBy, unlinkAnswer, unlinkCard}
+use Rattle.acts.specs.Move.{moveAnswer, moveCard}
 use Rattle.acts.specs.Format.{formatAnswer}
 use Rattle.acts.specs.declared.Acted.{Acted}
-use Rattle.acts.specs.declared.Acted.the-variants.{
-  Done,
-  NotDir,
-  IsDir,
-  BadName,
-  EntryExist,
-  EntryNotFound,
-  DirNotEmpty,
-  InvalidParam,
-  TooManyLinks,
-  NoDeviceSpace,
-}
+use Rattle.acts.specs.declared.Acted.the-variants.{Done}
 use Rattle.acts.proofs.UnlinkLaws.{done-is}
 use Rattle.sfs.specs.Said.{saidNo, saidValue, ifOpen, ofOpened, ofActed}
 use Rattle.sfs.specs.DirCalls.{Created, Linked, Unlinked, Moved, Formatted}
@@ -50,14 +30,15 @@ use Rattle.sfs.specs.declared.said.Said.{Said}
 use Rattle.sfs.proofs.Opened.{ready}
 use Rattle.theory.specs.Frame.{Frame}
 use Rattle.theory.proofs.FreshCard.{format-fits, format-card, format-whole, fresh-bytes}
-use Rattle.theory.proofs.CreateTests.{CanCreate, CreateTests, create-6, create-8, create-9, create-12, create-13, create-14, create-done, create-tests}
+use Rattle.theory.proofs.CreateTests.{create-tests, create-can}
 use Rattle.theory.proofs.CreateCard as C
 use Rattle.theory.proofs.CreateCard.{CreateDone}
-use Rattle.theory.proofs.LinkTests.{CanLink, LinkTests, link-6, link-8, link-9, link-7, link-13, link-14, link-done, link-tests}
+use Rattle.theory.proofs.LinkTests.{CanLink, link-tests, link-can}
 use Rattle.theory.proofs.LinkCard as L
 use Rattle.theory.proofs.LinkCard.{LinkDone}
-use Rattle.theory.proofs.UnlinkTests.{target}
+use Rattle.theory.proofs.UnlinkTests.{unlink-tests, unlink-can, target}
 use Rattle.theory.proofs.UnlinkCard.{UnlinkDone, unlink-done}
+use Rattle.theory.proofs.MoveTests.{move-tests, move-can}
 use Rattle.theory.proofs.MoveJudged.{judged}
 use Rattle.theory.proofs.MoveCard.{MoveDone, move-done}
 use Rattle.theory.proofs.Frame.{create-frame, link-frame, unlink-frame, move-frame}
@@ -91,15 +72,6 @@ acting f out NoInode x e i z = absurd (omega (arith, ap saidNo e))
 
 -- ---- create
 
-create-can : {img : List ℕ} {p : ℕ} {x : List ℕ} {k : ℕ} {a : Acted} → CreateTests img p x k a → actedNo a ≡ 0 → CanCreate img p x k
-create-can (create-6 _ e) z = absurd (omega (arith, ap actedNo e))
-create-can (create-8 _ _ e) z = absurd (omega (arith, ap actedNo e))
-create-can (create-9 _ _ _ _ _ e) z = absurd (omega (arith, ap actedNo e))
-create-can (create-12 _ _ e) z = absurd (omega (arith, ap actedNo e))
-create-can (create-13 _ _ _ e) z = absurd (omega (arith, ap actedNo e))
-create-can (create-14 _ _ _ _ e) z = absurd (omega (arith, ap actedNo e))
-create-can (create-done c _) z = c
-
 module _ {img img′ s s′ : List ℕ} (w : Whole img) (bytes : Bytes img) {p : ℕ} {x : List ℕ} {k : ℕ} {r : Said} (src : Bytes x)
     (c : Created img img′ s s′ p x k r) (z : saidNo r ≡ 0) where
   abbrev create-asked : Acted
@@ -115,18 +87,9 @@ module _ {img img′ s s′ : List ℕ} (w : Whole img) (bytes : Bytes img) {p :
 
   pub created-frame : Frame (w .inodes) img img′ (p ∷ []) []
   created-frame =
-      create-frame w (create-can (create-tests (w .sound) p (reached-listed img w p (create-acts .first)) x k) (create-acts .done) .name .dir) created-done
+      create-frame w (create-can (create-tests (w .sound) p (reached-listed img w p (create-acts .first)) x k) (create-acts .done) .0 .name .dir) created-done
 
 -- ---- link
-
-link-can : {img : List ℕ} {p : ℕ} {x : List ℕ} {c : ℕ} {a : Acted} → LinkTests img p x c a → actedNo a ≡ 0 → CanLink img p x c × (a ≡ Done 0)
-link-can (link-6 _ e) z = absurd (omega (arith, ap actedNo e))
-link-can (link-8 _ _ e) z = absurd (omega (arith, ap actedNo e))
-link-can (link-9 _ _ _ _ _ e) z = absurd (omega (arith, ap actedNo e))
-link-can (link-7 _ _ e) z = absurd (omega (arith, ap actedNo e))
-link-can (link-13 _ _ _ e) z = absurd (omega (arith, ap actedNo e))
-link-can (link-14 _ _ _ _ e) z = absurd (omega (arith, ap actedNo e))
-link-can (link-done c e) z = (c, e)
 
 module _ {img img′ s s′ : List ℕ} (w : Whole img) (bytes : Bytes img) {p : ℕ} {x : List ℕ} {n : ℕ} {r : Said} (src : Bytes x)
     (c : Linked img img′ s s′ p x n r) (z : saidNo r ≡ 0) where
@@ -143,67 +106,7 @@ module _ {img img′ s s′ : List ℕ} (w : Whole img) (bytes : Bytes img) {p :
   pub linked-frame : Frame (w .inodes) img img′ (p ∷ n ∷ []) []
   linked-frame = link-frame w (link-fine .0 .name .dir) linked-done
 
--- ---- unlink and move answer no value
-
-record Plain (a : Acted) : Type 0 where
-  value-none : actedValue a ≡ 0
-
-plain-done : (a : Acted) → Plain a → actedNo a ≡ 0 → a ≡ Done 0
-plain-done a e z = done-is a z ∙ ap Done (e .value-none)
-
-says : (a : Acted) → actedValue a ≡ 0 → Plain a
-says a e = record { value-none = e }
-
-plain-pick : (b : Bool) {x y : Acted} → Plain x → Plain y → Plain (pick b x y)
-plain-pick true e f = e
-plain-pick false e f = f
-
-plain-head : (d : Decoded) {x : Acted} {f : Head → Acted} → Plain x → ((h : Head) → Plain (f h)) → Plain (ofHead d x f)
-plain-head BadKind e g = e
-plain-head (Good h) e g = g h
-
-unlink-plain : (img : List ℕ) (p : ℕ) (x : List ℕ) → Plain (unlinkAnswer img p x)
-unfolding unlinkAnswer
-unlink-plain img p x =
-    plain-head (decoded img p) (says NotDir refl)
-    (λ h.
-    plain-pick (isDir (h .«type_»))
-    (plain-pick (isDots x) (says IsDir refl)
-    (plain-pick (ltb (whereIs img p x) (entries img p))
-    (plain-head (decoded img (namedBy img p x)) (says EntryNotFound refl)
-    (λ g. plain-pick (notEmpty g) (says DirNotEmpty refl) (says (Done 0) refl)))
-    (says EntryNotFound refl)))
-    (says NotDir refl))
-
-room-plain : (nb : ℕ) (img : List ℕ) (c : ℕ) (g : Head) (t : ℕ) (h : Head) → Plain (moveRoom nb img c g t h)
-unfolding moveRoom
-room-plain nb img c g t h =
-    plain-pick (isDir (g .«type_»))
-    (plain-pick (climbs img c t nb) (says InvalidParam refl) (plain-pick (eqb (h .nlinks) fullLinks) (says TooManyLinks refl) room))
-    room
-  where
-    room : Plain (pick (ltb (unused img) (needs (h .blocks) (h .size + 260))) NoDeviceSpace (Done 0))
-    room = plain-pick (ltb (unused img) (needs (h .blocks) (h .size + 260))) (says NoDeviceSpace refl) (says (Done 0) refl)
-
-move-plain : (nb : ℕ) (img : List ℕ) (p : ℕ) (old : List ℕ) (t : ℕ) (new : List ℕ) → Plain (moveAnswer nb img p old t new)
-unfolding moveAnswer
-move-plain nb img p old t new =
-    plain-head (decoded img p) (says NotDir refl)
-    (λ s.
-    plain-pick (isDir (s .«type_»))
-    (plain-pick (isDots old) (says IsDir refl)
-    (plain-head (decoded img t) (says NotDir refl)
-    (λ h.
-    plain-pick (isDir (h .«type_»))
-    (plain-pick (storable new)
-    (plain-pick (ltb (whereIs img t new) (entries img t)) (says EntryExist refl)
-    (plain-pick (ltb (whereIs img p old) (entries img p))
-    (plain-pick (eqb p t) (says (Done 0) refl)
-    (plain-head (decoded img (namedBy img p old)) (says EntryNotFound refl) (λ g. room-plain nb img (namedBy img p old) g t h)))
-    (says EntryNotFound refl)))
-    (says BadName refl))
-    (says NotDir refl))))
-    (says NotDir refl))
+-- ---- unlink
 
 module _ {img img′ s s′ : List ℕ} (w : Whole img) (bytes : Bytes img) {p : ℕ} {x : List ℕ} {r : Said} (c : Unlinked img img′ s s′ p x r)
     (z : saidNo r ≡ 0) where
@@ -212,12 +115,15 @@ module _ {img img′ s s′ : List ℕ} (w : Whole img) (bytes : Bytes img) {p :
 
   pub unlinked-done : UnlinkDone (w .inodes) img img′ p x
   unlinked-done =
-      rw (unlink-acts .image-is) (unlink-done w bytes p (unlink-acts .first) x (plain-done (unlinkAnswer img p x) (unlink-plain img p x) (unlink-acts .done)))
+      rw (unlink-acts .image-is)
+      (unlink-done w bytes p (unlink-acts .first) x (unlink-can (unlink-tests w p (unlink-acts .first) x) (unlink-acts .done) .3))
 
   pub unlinked-frame : Frame (w .inodes) img img′ (p ∷ namedBy img p x ∷ []) []
   unlinked-frame =
       let t = target w p (unlink-acts .first) x (unlink-acts .done) in
       unlink-frame w (t .1 .parent) (t .1 .reached) unlinked-done
+
+-- ---- move
 
 module _ {img img′ s s′ : List ℕ} (w : Whole img) (bytes : Bytes img) {p : ℕ} {old : List ℕ} {t : ℕ} {new : List ℕ} {r : Said} (src : Bytes new)
     (c : Moved img img′ s s′ p old t new r) (z : saidNo r ≡ 0) where
@@ -228,7 +134,7 @@ module _ {img img′ s s′ : List ℕ} (w : Whole img) (bytes : Bytes img) {p :
   move-acts = acting move-asked (moveCard (blocks img) img p old t new) (c .opened) (c .opening) (c .said) (c .image) z
 
   move-fine : move-asked ≡ Done 0
-  move-fine = plain-done move-asked (move-plain (blocks img) img p old t new) (move-acts .done)
+  move-fine = move-can (move-tests w p (move-acts .first) old t (move-acts .second) new) (move-acts .done) .3
 
   pub moved-done : MoveDone (w .inodes) img img′ p old (whereIs img p old) t (namedBy img p old) new
   moved-done = rw (move-acts .image-is) (move-done w bytes p t old new src (move-acts .first) (move-acts .second) move-fine)

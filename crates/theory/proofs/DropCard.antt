@@ -33,7 +33,8 @@ use Rattle.files.specs.Resizing.{fileBlocks}
 use Rattle.acts.specs.Unlink.{dropped}
 use Rattle.theory.proofs.Freed.{Freed, freed-is, num-kept, freed-one}
 use Rattle.theory.proofs.Losses.{isData, isSecond, lost, owns-lost}
-use Rattle.theory.proofs.GivenUp.{clear-in, sound-sizes, one-map, once-owned, shrunk-freed}
+use Rattle.theory.proofs.Tables.{block-clear, clear-in}
+use Rattle.theory.proofs.GivenUp.{sound-sizes, one-map, once-owned, shrunk-freed}
 
 -- what is left of a card of which inode n was taken away
 pub record DroppedCard (l img out : List ℕ) (n : ℕ) : Type 0 where
@@ -88,7 +89,7 @@ module _ (img l : List ℕ) (s : Sound img l) (bytes : Bytes img) (n : ℕ) (h :
       }
 
   block-kept : (b : ℕ) → b ≢ 0 → b ≢ 2 → SameBlock img gone b
-  block-kept b z m = block-from img gone b (λ p q t. freed-all .kept p (clear-in b p 1 z m q (omega arith)))
+  block-kept b z m = block-from img gone b (λ p q t. freed-all .kept p (clear-in b p 1 (block-clear b z m) q (omega arith)))
 
   within-own : Within img gone n
   within-own = record { other = λ b q o f z m. block-kept b z (m 0 (omega (arith, one-map img l s n h))) }

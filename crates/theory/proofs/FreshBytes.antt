@@ -10,7 +10,7 @@ use lib.Dec.{T, ltb, ltb→lt, lit≤}
 use lib.ListN.{length, replicate, List·getD-eq-default}
 use Rattle.words.specs.Words.{byte, num, Apart, Bytes}
 use Rattle.words.specs.Runs.{copied, zeroed, turns}
-use Rattle.words.proofs.Numbers.{num-frame, num-moved, bytes-put}
+use Rattle.words.proofs.Numbers.{num-frame, num-moved}
 use Rattle.words.proofs.Runs.{
   length-copied,
   byte-copied-off,
@@ -47,6 +47,7 @@ use Rattle.card.proofs.Views.{data-direct, fileByte-at, entry-at, name-at, leng
 use Rattle.card.proofs.Bare.{Bare}
 use Rattle.card.proofs.Small.{eachBelow, each-below}
 use Rattle.entries.specs.Names.{dot, dots}
+use Rattle.theory.proofs.Entry.{entryOf-bytes}
 
 -- ---- lists that are written out
 
@@ -65,10 +66,6 @@ name-tested xs a b t =
       high = b;
       no-nul = λ k l e. omega (arith, ltb→lt 0 (byte xs k) (each-below (λ j. ltb 0 (byte xs j)) (length xs) t k l));
     }
-
-pub bytes-entry : (n : ℕ) (x : List ℕ) → Bytes x → Bytes (entryOf n x)
-unfolding entryOf
-bytes-entry n x h = bytes-copied _ 4 x 0 (length x) (bytes-put 4 _ 0 n (bytes-tested (replicate 260 0) tt)) h
 
 -- ---- an entry that stands in a file is read back
 
@@ -124,8 +121,8 @@ pub bytes-rooted : (x : List ℕ) → Bytes x → Bytes (rooted x)
 unfolding rooted
 bytes-rooted x h =
     bytes-copied _ 12548 (entryOf 1 dots) 0 260
-    (bytes-copied _ 12288 (entryOf 1 dot) 0 260 (bytes-encoded x 1 rootAt3 h) (bytes-entry 1 dot (bytes-tested dot tt)))
-    (bytes-entry 1 dots (bytes-tested dots tt))
+    (bytes-copied _ 12288 (entryOf 1 dot) 0 260 (bytes-encoded x 1 rootAt3 h) (entryOf-bytes 1 dot (bytes-tested dot tt)))
+    (entryOf-bytes 1 dots (bytes-tested dots tt))
 
 module _ (x : List ℕ) (long : 65536 ≤ length x) where
   length-record : length (encoded x 1 rootAt3) ≡ length x

@@ -1,7 +1,6 @@
 -- Shrinking frees the blocks that the inode does not use with the new block count, and changes nothing else. Assumes nothing.
 use mathlib.Core.Path.{_≡_, sym, ap, _∙_, subst}
 use mathlib.Core.List.{List}
-use mathlib.Core.Logic.{_≢_}
 use Prim.Native.Nat.{ℕ, suc, _+_, _-_, _*_, _/_, _%_, _≤_, _<_, min, max}
 use native.Mathlib.Nat.{zero-add, add-zero, add-suc}
 use native.Mathlib.Omega.{arith}
@@ -29,6 +28,7 @@ use Rattle.blocks.specs.Steps.{Sizes}
 use Rattle.blocks.specs.Taking.{partFrom, partTo, partsFrom, partsTo, freeRun, freeDirect, freeSingle, freeTwofold, freeIndirect, freeLevel, freeDouble, shrunk}
 use Rattle.blocks.proofs.Freeing.{twofoldFree, freeSingle-in, freeTwofold-in, freeLevel-in, freePart-in}
 use Rattle.blocks.proofs.Runs.{Clear}
+use Rattle.theory.proofs.Tables.{block-clear, clear-in}
 use Rattle.theory.proofs.Freed.{Freed, Listed, Once, span, span-sum, span-most, span-join, freed-none, freed-is, num-kept, freed-run, freed-gap}
 use Rattle.theory.proofs.Losses.{
   upTo,
@@ -51,10 +51,6 @@ use Rattle.theory.proofs.Losses.{
   owns-lost,
 }
 
--- w bytes of a block that is neither the superblock's nor the map's
-pub clear-in : (c at w : ℕ) → c ≢ 0 → c ≢ 2 → 4096 * c ≤ at → at + w ≤ 4096 * c + 4096 → Clear at w
-clear-in c at w z m l h = record { count = λ p q. omega arith; map = λ p q. omega arith }
-
 module _ (img l : List ℕ) (s : Sound img l) (n : ℕ) (h : 0 < cnt n l) where
   pub sound-sizes : Sizes img (blocks img)
   sound-sizes = record { few = s .sized .few; many = s .sized .many; long = s .sized .long }
@@ -66,7 +62,7 @@ module _ (img l : List ℕ) (s : Sound img l) (n : ℕ) (h : 0 < cnt n l) where
 
   pub place-clear : (p : Place) → InUse img n p → (at w : ℕ) → 4096 * held img n p ≤ at → at + w ≤ 4096 * held img n p + 4096 → Clear at w
   place-clear p u at w =
-      clear-in (held img n p) at w (not-zero img l s n p h u) (λ e. not-map img l s n p h u 0 (omega (arith, one-map)) e)
+      clear-in (held img n p) at w (block-clear (held img n p) (not-zero img l s n p h u) (λ e. not-map img l s n p h u 0 (omega (arith, one-map)) e))
 
   -- where there is no pointer block, its number is 0
   pub indirect-below : indirect img n < blocks img

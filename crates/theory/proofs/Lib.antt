@@ -39,6 +39,7 @@ pub mod FreshBytes
 pub mod FreshCard
 pub mod EntryCounts
 pub mod NewInode
+pub mod Tests
 pub mod NameTests
 pub mod CreateTests
 pub mod Creating
@@ -53,12 +54,19 @@ pub mod UnlinkCard
 pub mod Climb
 pub mod MoveDir
 pub mod MoveCarry
+pub mod MoveTests
 pub mod MoveJudged
 pub mod MoveCard
+pub mod LookTests
 pub mod Frame
 pub mod Refusals
+pub mod Says
 pub mod DoneCalls
 pub mod Made
+pub mod TailSteps
+pub mod TailActs
+pub mod TailCalls
+pub mod TailShown
 pub mod ExamplesFresh
 pub mod ExamplesFile
 pub mod Examples

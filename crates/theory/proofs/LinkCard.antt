@@ -37,7 +37,7 @@ use Rattle.theory.proofs.Append.{Appended}
 use Rattle.theory.proofs.Remove.{inodeAt-same}
 use Rattle.theory.proofs.EntryCounts.{EntryMore, more-by, more-after, names-more, parent-more, found-more}
 use Rattle.theory.proofs.NameTests.{can-where}
-use Rattle.theory.proofs.LinkTests.{CanLink, LinkTests, link-6, link-8, link-9, link-7, link-13, link-14, link-done, link-tests}
+use Rattle.theory.proofs.LinkTests.{CanLink, link-tests, link-can}
 use Rattle.theory.proofs.Creating.{number-fits, spare-link, append-there, append-takes}
 
 -- directory p has the name x for inode c; l are the inodes before and after
@@ -185,16 +185,7 @@ module _ {img : List ℕ} (w : Whole img) (bytes : Bytes img) (p : ℕ) (r : Rea
 module _ {img : List ℕ} (w : Whole img) (bytes : Bytes img) (p : ℕ) (r : Reached img p) (x : List ℕ) (src : Bytes x) (c : ℕ) (u : Reached img c)
     (done : linkAnswer img p x c ≡ Done 0) where
   passed : CanLink img p x c
-  passed = go (link-tests (w .sound) p (omega (arith, w .tree .all p r)) x c (omega (arith, w .tree .all c u)))
-    where
-      go : LinkTests img p x c (linkAnswer img p x c) → CanLink img p x c
-      go (link-6 _ e) = absurd (omega (arith, ap actedNo (sym e ∙ done)))
-      go (link-8 _ _ e) = absurd (omega (arith, ap actedNo (sym e ∙ done)))
-      go (link-9 _ _ _ _ _ e) = absurd (omega (arith, ap actedNo (sym e ∙ done)))
-      go (link-7 _ _ e) = absurd (omega (arith, ap actedNo (sym e ∙ done)))
-      go (link-13 _ _ _ e) = absurd (omega (arith, ap actedNo (sym e ∙ done)))
-      go (link-14 _ _ _ _ e) = absurd (omega (arith, ap actedNo (sym e ∙ done)))
-      go (link-done k e) = k
+  passed = link-can (link-tests (w .sound) p (omega (arith, w .tree .all p r)) x c (omega (arith, w .tree .all c u))) (ap actedNo done) .0
 
   card-is : (t : FileType) → OfKind img c t
       → linkCard (blocks img) img p x c ≡ linked (blocks img) p (inodeAt img p Dir) x c (inodeAt img c t) img

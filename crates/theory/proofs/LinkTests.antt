@@ -1,6 +1,5 @@
 -- What link answers on a sound card, test by test: 6, 8, 9, 7, 13, 14; and that a refusal changes nothing. Assumes nothing.
-use mathlib.Core.Path.{_≡_, refl, sym, _∙_}
-use mathlib.Core.Bool.{false}
+use mathlib.Core.Path.{_≡_, sym, ap, _∙_}
 use mathlib.Core.List.{List}
 use mathlib.Core.Logic.{_≢_}
 use Prim.Native.Nat.{ℕ, _+_, _≤_, _<_}
@@ -17,12 +16,13 @@ use Rattle.layout.specs.declared.inode.Head.{Head}
 use Rattle.card.specs.View.{entries, name}
 use Rattle.card.specs.Whole.{Sound}
 use Rattle.files.specs.Requests.{needs, recordWith}
-use Rattle.acts.specs.Answers.{actedNo, ifDone, isDir, ofHead, fullLinks}
+use Rattle.acts.specs.Answers.{actedNo, ifDone, ofHead, fullLinks}
 use Rattle.acts.specs.Link.{linkRoom, linkAnswer, linked, linkCard}
 use Rattle.acts.specs.declared.Acted.{Acted}
 use Rattle.acts.specs.declared.Acted.the-variants.{Done, NotDir, IsDir, BadName, EntryExist, TooManyLinks, NoDeviceSpace}
-use Rattle.theory.proofs.Requests.{OfKind, kinds, Filelike, filelike-not}
-use Rattle.theory.proofs.NameTests.{CanName, NameTests, not-dir, bad-name, exists, can, nameTests, name-tests, done-not, head-same}
+use Rattle.theory.proofs.Requests.{OfKind, of-kind, kinds, Filelike, filelike, filelike-not}
+use Rattle.theory.proofs.NameTests.{CanName, NameTests, not-dir, bad-name, exists, can, nameTests, name-tests, name-exact}
+use Rattle.theory.proofs.Tests.{dir-not, not-done, head-same}
 
 -- what 7, 13 and 14 do not refuse: c is no directory and has a link to spare
 pub record CanLink (img : List ℕ) (p : ℕ) (x : List ℕ) (c : ℕ) : Type 0 where
@@ -42,11 +42,6 @@ pub data LinkTests (img : List ℕ) (p : ℕ) (x : List ℕ) (c : ℕ) (a : Acte
       → LinkTests img p x c a
   link-done : CanLink img p x c → a ≡ Done 0 → LinkTests img p x c a
 
-file-not : (t : FileType) → Filelike t → isDir t ≡ false
-file-not File f = refl
-file-not Dir f = absurd f
-file-not SymLink f = refl
-
 module _ {img l : List ℕ} (s : Sound img l) (p : ℕ) (h : 0 < cnt p l) (x : List ℕ) (c : ℕ) (g : 0 < cnt c l) where
   abbrev rest : Head → Acted
   rest d = ofHead (decoded img c) IsDir (λ e. linkRoom img d e)
@@ -58,19 +53,19 @@ module _ {img l : List ℕ} (s : Sound img l) (p : ℕ) (h : 0 < cnt p l) (x : L
     module _ (f : Filelike t) where
       full : links img c ≡ fullLinks → rest (headAt img p Dir) ≡ TooManyLinks
       unfolding linkRoom
-      full e = rest-is ∙ rw (file-not t f, eq-eqb (links img c) fullLinks e)
+      full e = rest-is ∙ rw (dir-not t (filelike-not t f), eq-eqb (links img c) fullLinks e)
 
       short : links img c ≢ fullLinks → unused img < needs (count img p) (size img p + 260) → rest (headAt img p Dir) ≡ NoDeviceSpace
       unfolding linkRoom
       short d q =
           rest-is
-          ∙ rw (file-not t f, ne-eqb (links img c) fullLinks d, lt-ltb (unused img) (needs (count img p) (size img p + 260)) q)
+          ∙ rw (dir-not t (filelike-not t f), ne-eqb (links img c) fullLinks d, lt-ltb (unused img) (needs (count img p) (size img p + 260)) q)
 
       fine : links img c ≢ fullLinks → needs (count img p) (size img p + 260) ≤ unused img → rest (headAt img p Dir) ≡ Done 0
       unfolding linkRoom
       fine d q =
           rest-is
-          ∙ rw (file-not t f, ne-eqb (links img c) fullLinks d, le-ltb (unused img) (needs (count img p) (size img p + 260)) q)
+          ∙ rw (dir-not t (filelike-not t f), ne-eqb (links img c) fullLinks d, le-ltb (unused img) (needs (count img p) (size img p + 260)) q)
 
   of-dir : OfKind img c Dir → rest (headAt img p Dir) ≡ IsDir
   unfolding linkRoom
@@ -89,6 +84,9 @@ module _ {img l : List ℕ} (s : Sound img l) (p : ℕ) (h : 0 < cnt p l) (x : L
   by-kind n Dir o = link-7 n (o .number) (of-dir o)
   by-kind n SymLink o = by-room n SymLink o tt (ℕ-discrete (links img c) fullLinks) (decLt (unused img) (needs (count img p) (size img p + 260)))
 
+  filed : kind img c ≢ 2 → (t : FileType) × OfKind img c t × Filelike t
+  filed d = let k = kinds img c (s .inode c g) in (k .0, k .1, filelike (k .0) (λ e. d (k .1 .number ∙ e)))
+
   pub link-tests : LinkTests img p x c (linkAnswer img p x c)
   unfolding linkAnswer
   link-tests = go (name-tests x rest (s .inode p h))
@@ -99,6 +97,28 @@ module _ {img l : List ℕ} (s : Sound img l) (p : ℕ) (h : 0 < cnt p l) (x : L
       go (exists d g j b q e) = link-9 d g j b q e
       go (can n e) = let w = kinds img c (s .inode c g) in rw e (by-kind n (w .0) (w .1))
 
+  -- the causes exclude each other
+  pub link-exact : {a : Acted} → LinkTests img p x c a → a ≡ linkAnswer img p x c
+  unfolding linkAnswer
+  link-exact (link-6 d e) = name-exact x rest (s .inode p h) (not-dir d e)
+  link-exact (link-8 d n e) = name-exact x rest (s .inode p h) (bad-name d n e)
+  link-exact (link-9 d n j b q e) = name-exact x rest (s .inode p h) (exists d n j b q e)
+  link-exact (link-7 n k e) = name-exact x rest (s .inode p h) (can n (e ∙ sym (of-dir (of-kind img c Dir k))))
+  link-exact (link-13 n d q e) = let k = filed d in name-exact x rest (s .inode p h) (can n (e ∙ sym (full (k .0) (k .1) (k .2) q)))
+  link-exact (link-14 n d q b e) = let k = filed d in name-exact x rest (s .inode p h) (can n (e ∙ sym (short (k .0) (k .1) (k .2) q b)))
+  link-exact (link-done n e) =
+      let k = filed (n .no-dir) in
+      name-exact x rest (s .inode p h) (can (n .name) (e ∙ sym (fine (k .0) (k .1) (k .2) (n .spare) (n .room))))
+
+pub link-can : {img : List ℕ} {p : ℕ} {x : List ℕ} {c : ℕ} {a : Acted} → LinkTests img p x c a → actedNo a ≡ 0 → CanLink img p x c × (a ≡ Done 0)
+link-can (link-6 _ e) z = absurd (omega (arith, ap actedNo e))
+link-can (link-8 _ _ e) z = absurd (omega (arith, ap actedNo e))
+link-can (link-9 _ _ _ _ _ e) z = absurd (omega (arith, ap actedNo e))
+link-can (link-7 _ _ e) z = absurd (omega (arith, ap actedNo e))
+link-can (link-13 _ _ _ e) z = absurd (omega (arith, ap actedNo e))
+link-can (link-14 _ _ _ _ e) z = absurd (omega (arith, ap actedNo e))
+link-can (link-done c e) z = (c, e)
+
 -- ---- the card
 
 pub link-refused : (nb : ℕ) (img : List ℕ) (p : ℕ) (x : List ℕ) (c : ℕ) → actedNo (linkAnswer img p x c) ≢ 0 → linkCard nb img p x c ≡ img
@@ -108,4 +128,4 @@ link-refused nb img p x c d =
     (λ h. ofHead (decoded img c) img (λ g. ifDone (linkAnswer img p x c) (linked nb p (recordWith img p h) x c (recordWith img c g) img) img))
     (λ h.
     head-same (decoded img c) img (λ g. ifDone (linkAnswer img p x c) (linked nb p (recordWith img p h) x c (recordWith img c g) img) img)
-    (λ g. done-not (linkAnswer img p x c) (linked nb p (recordWith img p h) x c (recordWith img c g) img) img d))
+    (λ g. not-done (linkAnswer img p x c) d (linked nb p (recordWith img p h) x c (recordWith img c g) img) img))

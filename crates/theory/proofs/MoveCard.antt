@@ -45,10 +45,11 @@ use Rattle.theory.proofs.EntryCounts.{
   parent-named,
 }
 use Rattle.theory.proofs.TreeMove.{Above, MovedFile, MovedDir, tree-move, tree-rename}
-use Rattle.theory.proofs.Climb.{climb-clear, above-not, not-own-child}
+use Rattle.theory.proofs.Climb.{above-not, not-own-child}
 use Rattle.theory.proofs.MoveDir.{Turned, TurnedDir, turn-up, turned-by, turned-names, turned-dir}
 use Rattle.theory.proofs.MoveCarry.{carriedOut, Carried, carry}
-use Rattle.theory.proofs.MoveJudged.{Judged, Roomy, judged, move-here, move-file, move-dir}
+use Rattle.theory.proofs.MoveTests.{Roomy}
+use Rattle.theory.proofs.MoveJudged.{Judged, judged, move-here, move-file, move-dir}
 
 -- ---- what a move says
 
@@ -294,7 +295,7 @@ module _ {img : List ℕ} (w : Whole img) (bytes : Bytes img) (p t : ℕ) (old n
     -- a directory: ".." besides
     module _ (k : kind img c ≡ 2) where
       away : Above img c t
-      away = climb-clear w c t rt (a .t-dir) (r .clear k)
+      away = r .away k
 
       dir-not-t : c ≢ t
       dir-not-t e = above-not away (sym e)

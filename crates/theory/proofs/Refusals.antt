@@ -49,7 +49,8 @@ use Rattle.theory.specs.Made.{Asked, Made, filed, create, link, unlink, 
 use Rattle.theory.proofs.Calls.{said-filed}
 use Rattle.theory.proofs.CreateTests.{create-refused}
 use Rattle.theory.proofs.LinkTests.{link-refused}
-use Rattle.theory.proofs.UnlinkTests.{not-done, unlink-refused}
+use Rattle.theory.proofs.Tests.{not-done}
+use Rattle.theory.proofs.UnlinkTests.{unlink-refused}
 use Rattle.theory.proofs.MoveJudged.{move-refused}
 
 -- ---- what is said of an answer

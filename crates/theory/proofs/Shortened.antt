@@ -70,7 +70,8 @@ use Rattle.theory.proofs.Change.{Changed}
 use Rattle.theory.proofs.Plan.{Had, in-use-had}
 use Rattle.theory.proofs.Freed.{Freed, freed-none}
 use Rattle.theory.proofs.Losses.{isData, isSecond, usedBy, lost, owns-lost, left, left-needed, left-none, left-low, less-both}
-use Rattle.theory.proofs.GivenUp.{clear-in, one-map, shrunk-freed}
+use Rattle.theory.proofs.Tables.{block-clear, clear-in}
+use Rattle.theory.proofs.GivenUp.{one-map, shrunk-freed}
 
 -- d is the record of inode n of card img with another length, at which it has b blocks, and no pointer blocks that it does not need
 pub record Recorded (img : List ℕ) (n len b : ℕ) (d : DiskINode) : Type 0 where
@@ -115,7 +116,7 @@ module _ (img l : List ℕ) (s : Sound img l) (n : ℕ) (h : 0 < cnt n l) (len :
   block-same : (x : ℕ) → x ≢ 0 → x ≢ 2 → x ≢ n → SameBlock img out x
   block-same x z m o =
       block-from img out x
-      (λ p q t. far p (clear-in x p 1 z m q (omega arith)) (off p q t))
+      (λ p q t. far p (clear-in x p 1 (block-clear x z m) q (omega arith)) (off p q t))
     where
       off : (p : ℕ) → 4096 * x ≤ p → p < 4096 * x + 4096 → Apart p 1 (4096 * n) 80
       off p q t u v = o (omega arith)

@@ -61,6 +61,10 @@ had-table b i h l = go (decLt i 1036)
     go (yes q) = rw (table-first i h q) (omega arith)
     go (no q) = rw (table-second i (omega arith)) (seconds-reach b i l (omega arith))
 
+-- a block that is neither the superblock's nor the map's
+pub block-clear : (x : ℕ) → x ≢ 0 → x ≢ 2 → Clear (4096 * x) 4096
+block-clear x z m = record { count = λ p q. omega arith; map = λ p q. omega arith }
+
 -- a part of a block
 pub clear-in : (x at k : ℕ) → Clear (4096 * x) 4096 → 4096 * x ≤ at → at + k ≤ 4096 * x + 4096 → Clear at k
 clear-in x at k c h l = record { count = λ p q. c .count (omega arith) (omega arith); map = λ p q. c .map (omega arith) (omega arith) }

@@ -43,7 +43,8 @@ use Rattle.theory.proofs.Links.{Relinked, links-only}
 use Rattle.theory.proofs.Remove.{Removed, inodeAt-same, remove-entry}
 use Rattle.theory.proofs.EntryCounts.{EntryLess, names-less, gone-less, parent-less}
 use Rattle.theory.proofs.DropCard.{DroppedCard, drop-inode}
-use Rattle.theory.proofs.UnlinkTests.{Target, dir-is, dir-not, target}
+use Rattle.theory.proofs.Tests.{dir-is, dir-not}
+use Rattle.theory.proofs.UnlinkTests.{Target, target}
 use Rattle.theory.proofs.UnlinkSteps.{Cut, beside, less-held, less-unused, less-use, own-byte, own-count, own-held, own-kind, own-links, own-size, parent-entries, parent-links, parent-shrinks}
 
 -- ---- what is promised

@@ -1,7 +1,7 @@
--- What the answer of unlink says on a whole card, and that a refusal changes nothing. Assumes nothing.
+-- What unlink answers on a whole card, test by test: 6, 7, 10, 11; what is unlinked where it is done; and that a refusal changes nothing. Assumes nothing.
 use mathlib.Core.Path.{_≡_, refl, sym, ap, _∙_}
 use mathlib.Core.Logic.{_≢_}
-use mathlib.Core.Bool.{Bool, true, false, false≢true}
+use mathlib.Core.Bool.{Bool, true, false}
 use mathlib.Core.List.{List}
 use Prim.Native.Nat.{ℕ, _+_, _-_, _≤_, _<_}
 use native.Mathlib.Omega.{arith}
@@ -9,77 +9,120 @@ use native.Mathlib.Decide.{decLt, ℕ-discrete}
 use borrow.Author.Tests.{lt-ltb, le-ltb}
 use lib.Dec.{ltb}
 use Rattle.words.specs.Words.{pick}
-use Rattle.words.specs.Sums.{cnt}
 use Rattle.layout.specs.Inode.{kind, kindNo, headAt, decoded}
 use Rattle.layout.specs.declared.inode.FileType.{FileType}
 use Rattle.layout.specs.declared.inode.FileType.the-variants.{File, Dir, SymLink}
-use Rattle.layout.specs.declared.inode.Head.{Head}
-use Rattle.layout.specs.declared.inode.Decoded.{Decoded}
-use Rattle.layout.specs.declared.inode.Decoded.the-variants.{Good, BadKind}
 use Rattle.card.specs.View.{entries, entry, name}
-use Rattle.card.specs.Whole as Card
 use Rattle.card.specs.Whole.{Reached, down, Whole}
 use Rattle.card.proofs.Views.{kids-of-dir}
 use Rattle.entries.specs.Entries.{whereIs}
 use Rattle.entries.specs.Names.{dot, dots, isDots}
-use Rattle.entries.proofs.Lookup.{where-hit}
+use Rattle.entries.proofs.Lookup.{where-range, where-hit, where-not, where-only}
 use Rattle.entries.proofs.Given.{dots-apart}
-use Rattle.acts.specs.Answers.{actedNo, ifDone, isDir, ofHead}
+use Rattle.acts.specs.Answers.{actedNo, ofHead}
 use Rattle.acts.specs.Unlink.{namedBy, notEmpty, unlinkAnswer, unlinkCard}
 use Rattle.acts.specs.declared.Acted.{Acted}
-use Rattle.acts.specs.declared.Acted.the-variants.{
-  Done,
-  NotDir,
-  IsDir,
-  BadName,
-  EntryExist,
-  EntryNotFound,
-  DirNotEmpty,
-  InvalidParam,
-  TooManyLinks,
-  NoDeviceSpace,
-}
-use Rattle.theory.proofs.Requests.{OfKind, kinds}
+use Rattle.acts.specs.declared.Acted.the-variants.{Done, NotDir, IsDir, EntryNotFound, DirNotEmpty}
+use Rattle.theory.proofs.Requests.{OfKind, of-kind, kinds}
+use Rattle.theory.proofs.Tests.{whole-inode, DirTest, other, dir, dirTest, dir-test, dir-exact, met, unmet, not-done, head-same}
 
--- ---- what the tests say
+-- ---- a name to be unlinked or moved
 
--- a test that must hold, and one that must not, where the answer is no refusal
-pub needed : (t : Bool) (a r : Acted) → 0 < actedNo r → actedNo (pick t a r) ≡ 0 → (t ≡ true) × (actedNo a ≡ 0)
-needed true a r q e = (refl, e)
-needed false a r q e = absurd (omega arith)
+-- entry j of directory p has the name x, which is neither "." nor ".."
+pub record HasName (img : List ℕ) (p : ℕ) (x : List ℕ) (j : ℕ) : Type 0 where
+  pub parent : kind img p ≡ 2
+  pub plain : isDots x ≡ false
+  pub there : j < entries img p
+  pub named : name img p j ≡ x
 
-pub barred : (t : Bool) (r a : Acted) → 0 < actedNo r → actedNo (pick t r a) ≡ 0 → (t ≡ false) × (actedNo a ≡ 0)
-barred true r a q e = absurd (omega arith)
-barred false r a q e = (refl, e)
+module _ {img : List ℕ} (w : Whole img) {p : ℕ} (r : Reached img p) {x : List ℕ} {j : ℕ} (h : HasName img p x j) where
+  pub has-where : whereIs img p x ≡ j
+  has-where = where-only img p x (w .tree .dir p r (h .parent) .differ) j (h .there) (h .named)
 
-pub is-dir : (k : FileType) → isDir k ≡ true → kindNo k ≡ 2
-is-dir File e = absurd (false≢true e)
-is-dir Dir e = refl
-is-dir SymLink e = absurd (false≢true e)
+  -- it is of a child
+  pub has-past : 2 ≤ j
+  has-past = go (ℕ-discrete j 0) (ℕ-discrete j 1)
+    where
+      a : (x ≡ dot → ⊥) × (x ≡ dots → ⊥)
+      a = dots-apart x (h .plain)
 
-pub dir-is : (k : FileType) → kindNo k ≡ 2 → isDir k ≡ true
-dir-is File e = absurd (omega arith)
-dir-is Dir e = refl
-dir-is SymLink e = absurd (omega arith)
+      go : Dec (j ≡ 0) → Dec (j ≡ 1) → 2 ≤ j
+      go (yes z) y = absurd (a .0 (sym (h .named) ∙ ap (name img p) z ∙ w .tree .dir p r (h .parent) .dot))
+      go (no z) (yes y) = absurd (a .1 (sym (h .named) ∙ ap (name img p) y ∙ w .tree .dir p r (h .parent) .dots))
+      go (no z) (no y) = omega arith
 
-pub dir-not : (k : FileType) → kindNo k ≢ 2 → isDir k ≡ false
-dir-not File e = refl
-dir-not Dir e = absurd (e refl)
-dir-not SymLink e = refl
+  pub has-child : Reached img (entry img p j)
+  has-child =
+      let e : 2 + (j - 2) ≡ j = omega (arith, has-past) in
+      down (entry img p j) (j - 2) r (omega (arith, has-past, h .there, kids-of-dir img p (h .parent))) (ap (entry img p) e)
 
-pub below-of : (a b : ℕ) → ltb a b ≡ true → a < b
-below-of a b e = go (decLt a b)
-  where
-    go : Dec (a < b) → a < b
-    go (yes q) = q
-    go (no q) = absurd (false≢true (sym (le-ltb a b (omega arith)) ∙ e))
+-- ---- the tests
 
-pub above-of : (a b : ℕ) → ltb a b ≡ false → b ≤ a
-above-of a b e = go (decLt a b)
-  where
-    go : Dec (a < b) → b ≤ a
-    go (yes q) = absurd (false≢true (sym e ∙ lt-ltb a b q))
-    go (no q) = omega arith
+-- the answer a, by 01's numbers
+pub data UnlinkTests (img : List ℕ) (p : ℕ) (x : List ℕ) (a : Acted) : Type 0 where
+  unlink-6 : kind img p ≢ 2 → a ≡ NotDir → UnlinkTests img p x a
+  unlink-7 : kind img p ≡ 2 → isDots x ≡ true → a ≡ IsDir → UnlinkTests img p x a
+  unlink-10 : kind img p ≡ 2 → isDots x ≡ false → ((j : ℕ) → j < entries img p → name img p j ≢ x) → a ≡ EntryNotFound → UnlinkTests img p x a
+  unlink-11 : (j : ℕ) → HasName img p x j → kind img (entry img p j) ≡ 2 → 2 < entries img (entry img p j) → a ≡ DirNotEmpty → UnlinkTests img p x a
+  unlink-done : (j : ℕ) → HasName img p x j → (kind img (entry img p j) ≡ 2 → entries img (entry img p j) ≤ 2) → a ≡ Done 0 → UnlinkTests img p x a
+
+module _ {img : List ℕ} (w : Whole img) (p : ℕ) (r : Reached img p) (x : List ℕ) where
+  abbrev last : Acted
+  last = ofHead (decoded img (namedBy img p x)) EntryNotFound (λ g. pick (notEmpty g) DirNotEmpty (Done 0))
+
+  abbrev rest : Acted
+  rest = pick (isDots x) IsDir (pick (ltb (whereIs img p x) (entries img p)) last EntryNotFound)
+
+  by-kind : HasName img p x (whereIs img p x) → (k : FileType) → OfKind img (namedBy img p x) k → Dec (2 < entries img (namedBy img p x))
+      → UnlinkTests img p x last
+  by-kind h File o q = unlink-done (whereIs img p x) h (λ e. absurd (omega (arith, o .number))) (rw (o .decodes))
+  by-kind h Dir o (yes q) = unlink-11 (whereIs img p x) h (o .number) q (rw (o .decodes, lt-ltb 2 (entries img (namedBy img p x)) q))
+  by-kind h Dir o (no q) =
+      unlink-done (whereIs img p x) h (λ _. omega arith) (rw (o .decodes, le-ltb 2 (entries img (namedBy img p x)) (omega arith)))
+  by-kind h SymLink o q = unlink-done (whereIs img p x) h (λ e. absurd (omega (arith, o .number))) (rw (o .decodes))
+
+  by-name : kind img p ≡ 2 → (t : Bool) → isDots x ≡ t → Dec (whereIs img p x < entries img p) → UnlinkTests img p x rest
+  by-name d true e q = unlink-7 d e (rw e)
+  by-name d false e (no q) =
+      unlink-10 d e (where-not img p x (omega (arith, where-range img p x))) (rw (e, le-ltb (whereIs img p x) (entries img p) (omega arith)))
+  by-name d false e (yes q) =
+      let h : HasName img p x (whereIs img p x) = record { parent = d; plain = e; there = q; named = where-hit img p x q } in
+      let k = kinds img (namedBy img p x) (whole-inode w (namedBy img p x) (has-child w r h)) in
+      rw (e, lt-ltb (whereIs img p x) (entries img p) q) (by-kind h (k .0) (k .1) (decLt 2 (entries img (namedBy img p x))))
+
+  pub unlink-tests : UnlinkTests img p x (unlinkAnswer img p x)
+  unfolding unlinkAnswer
+  unlink-tests = go (dir-test (λ h. rest) (whole-inode w p r))
+    where
+      go : DirTest img p (dirTest img p (λ h. rest)) rest → UnlinkTests img p x (dirTest img p (λ h. rest))
+      go (other d e) = unlink-6 d e
+      go (dir d e) = rw e (by-name d (isDots x) refl (decLt (whereIs img p x) (entries img p)))
+
+  -- what 11 is asked of
+  by-entry : (j : ℕ) (h : HasName img p x j) (k : FileType) → OfKind img (entry img p j) k
+      → rest ≡ pick (notEmpty (headAt img (entry img p j) k)) DirNotEmpty (Done 0)
+  by-entry j h k o = rw (h .plain, met img p x j (h .there) (h .named), has-where w r h, o .decodes)
+
+  by-bare : (j : ℕ) → HasName img p x j → (k : FileType) → OfKind img (entry img p j) k
+      → (kind img (entry img p j) ≡ 2 → entries img (entry img p j) ≤ 2) → rest ≡ Done 0
+  by-bare j h File o b = by-entry j h File o
+  by-bare j h Dir o b = by-entry j h Dir o ∙ rw (le-ltb 2 (entries img (entry img p j)) (b (o .number)))
+  by-bare j h SymLink o b = by-entry j h SymLink o
+
+  -- the causes exclude each other
+  pub unlink-exact : {a : Acted} → UnlinkTests img p x a → a ≡ unlinkAnswer img p x
+  unfolding unlinkAnswer
+  unlink-exact (unlink-6 d e) = dir-exact (λ h. rest) (whole-inode w p r) (other d e)
+  unlink-exact (unlink-7 d q e) = dir-exact (λ h. rest) (whole-inode w p r) (dir d (rw q e))
+  unlink-exact (unlink-10 d q n e) = dir-exact (λ h. rest) (whole-inode w p r) (dir d (rw (q, unmet img p x n) e))
+  unlink-exact (unlink-11 j h d b e) =
+      let o = of-kind img (entry img p j) Dir d in
+      dir-exact (λ h. rest) (whole-inode w p r) (dir (h .parent) (e ∙ sym (by-entry j h Dir o ∙ rw (lt-ltb 2 (entries img (entry img p j)) b))))
+  unlink-exact (unlink-done j h b e) =
+      let k = kinds img (entry img p j) (whole-inode w (entry img p j) (has-child w r h)) in
+      dir-exact (λ h. rest) (whole-inode w p r) (dir (h .parent) (e ∙ sym (by-bare j h (k .0) (k .1) b)))
+
+-- ---- done
 
 -- what x names in p can be unlinked: it is of kind k
 pub record Target (img : List ℕ) (p : ℕ) (x : List ℕ) (k : FileType) : Type 0 where
@@ -91,86 +134,37 @@ pub record Target (img : List ℕ) (p : ℕ) (x : List ℕ) (k : FileType) : Typ
   pub bare : kindNo k ≡ 2 → entries img (namedBy img p x) ≤ 2
   pub apart : p ≢ namedBy img p x
 
+pub unlink-can : {img : List ℕ} {p : ℕ} {x : List ℕ} {a : Acted} → UnlinkTests img p x a → actedNo a ≡ 0
+    → (j : ℕ) × HasName img p x j × (kind img (entry img p j) ≡ 2 → entries img (entry img p j) ≤ 2) × (a ≡ Done 0)
+unlink-can (unlink-6 _ e) z = absurd (omega (arith, ap actedNo e))
+unlink-can (unlink-7 _ _ e) z = absurd (omega (arith, ap actedNo e))
+unlink-can (unlink-10 _ _ _ e) z = absurd (omega (arith, ap actedNo e))
+unlink-can (unlink-11 _ _ _ _ e) z = absurd (omega (arith, ap actedNo e))
+unlink-can (unlink-done j h b e) z = (j, h, b, e)
+
 module _ {img : List ℕ} (w : Whole img) (p : ℕ) (r : Reached img p) (x : List ℕ) where
-  pub listed : (n : ℕ) → Reached img n → 0 < cnt n (w .inodes)
-  listed n q = omega (arith, w .tree .all n q)
-
-  -- the tests on p and x
-  pub tests : (k : FileType) → OfKind img p k → actedNo (unlinkAnswer img p x) ≡ 0
-      → (isDir k ≡ true) × (isDots x ≡ false) × (whereIs img p x < entries img p)
-      × (actedNo (ofHead (decoded img (namedBy img p x)) EntryNotFound (λ g. pick (notEmpty g) DirNotEmpty (Done 0))) ≡ 0)
-  unfolding unlinkAnswer
-  tests k o e =
-      let rest : Acted = ofHead (decoded img (namedBy img p x)) EntryNotFound (λ g. pick (notEmpty g) DirNotEmpty (Done 0)) in
-      let found : Acted = pick (ltb (whereIs img p x) (entries img p)) rest EntryNotFound in
-      let a = needed (isDir k) (pick (isDots x) IsDir found) NotDir (omega arith) (rw (o .decodes) at e) in
-      let b = barred (isDots x) IsDir found (omega arith) (a .1) in
-      let c = needed (ltb (whereIs img p x) (entries img p)) rest EntryNotFound (omega arith) (b .1) in
-      (a .0, b .0, below-of (whereIs img p x) (entries img p) (c .0), c .1)
-
-  -- a name that is neither "." nor ".." is of a child
-  pub past-dots : Card.Dir img p → isDots x ≡ false → whereIs img p x < entries img p → 2 ≤ whereIs img p x
-  past-dots d e q = go (ℕ-discrete (whereIs img p x) 0) (ℕ-discrete (whereIs img p x) 1)
-    where
-      a : (x ≡ dot → ⊥) × (x ≡ dots → ⊥)
-      a = dots-apart x e
-
-      go : Dec (whereIs img p x ≡ 0) → Dec (whereIs img p x ≡ 1) → 2 ≤ whereIs img p x
-      go (yes z) y = absurd (a .0 (sym (where-hit img p x q) ∙ ap (name img p) z ∙ d .dot))
-      go (no z) (yes y) = absurd (a .1 (sym (where-hit img p x q) ∙ ap (name img p) y ∙ d .dots))
-      go (no z) (no y) = omega arith
-
-  pub child : kind img p ≡ 2 → 2 ≤ whereIs img p x → whereIs img p x < entries img p → Reached img (namedBy img p x)
-  child k a q =
-      let e : 2 + (whereIs img p x - 2) ≡ whereIs img p x = omega arith in
-      down (namedBy img p x) (whereIs img p x - 2) r (omega (arith, kids-of-dir img p k)) (ap (entry img p) e)
-
-  -- a directory is empty
-  pub test-bare : (k : FileType) → OfKind img (namedBy img p x) k
-      → actedNo (ofHead (decoded img (namedBy img p x)) EntryNotFound (λ g. pick (notEmpty g) DirNotEmpty (Done 0))) ≡ 0
-      → kindNo k ≡ 2 → entries img (namedBy img p x) ≤ 2
-  test-bare k o e d =
-      above-of 2 (entries img (namedBy img p x))
-      (rw (dir-is k d) at (barred (notEmpty (headAt img (namedBy img p x) k)) DirNotEmpty (Done 0) (omega arith) (rw (o .decodes) at e) .0))
+  bare-target : (k : FileType) → OfKind img (namedBy img p x) k → HasName img p x (whereIs img p x)
+      → (kind img (namedBy img p x) ≡ 2 → entries img (namedBy img p x) ≤ 2) → Target img p x k
+  bare-target k o h b =
+      record {
+        parent = h .parent;
+        past = has-past w r h;
+        there = h .there;
+        reached = has-child w r h;
+        of = o;
+        bare = λ e. b (o .number ∙ e);
+        apart = λ q. omega (arith, h .there, has-past w r h, b (ap (kind img) (sym q) ∙ h .parent), ap (entries img) q);
+      }
 
   pub target : actedNo (unlinkAnswer img p x) ≡ 0 → (k : FileType) × Target img p x k
-  target e =
-      let o = kinds img p (w .sound .inode p (listed p r)) in
-      let t = tests (o .0) (o .1) e in
-      let d : kind img p ≡ 2 = o .1 .number ∙ is-dir (o .0) (t .0) in
-      let a = past-dots (w .tree .dir p r d) (t .1) (t .2) in
-      let c = child d a (t .2) in
-      let k = kinds img (namedBy img p x) (w .sound .inode (namedBy img p x) (listed (namedBy img p x) c)) in
-      let b = test-bare (k .0) (k .1) (t .3) in (
-        k .0,
-        record {
-          parent = d;
-          past = a;
-          there = t .2;
-          reached = c;
-          of = k .1;
-          bare = b;
-          apart = λ q. omega (arith, t .2, a, b (sym (k .1 .number) ∙ ap (kind img) (sym q) ∙ d), ap (entries img) q);
-        },
-      )
+  target z =
+      let u = unlink-can (unlink-tests w p r x) z in
+      let e = has-where w r (u .1) in
+      let h : HasName img p x (whereIs img p x) = rw e (u .1) in
+      let k = kinds img (namedBy img p x) (whole-inode w (namedBy img p x) (has-child w r h)) in
+      (k .0, bare-target (k .0) (k .1) h (rw e (u .2)))
 
 -- ---- a refusal changes nothing
-
-pub not-done : {A : Type 0} (a : Acted) → actedNo a ≢ 0 → (x r : A) → ifDone a x r ≡ r
-not-done (Done v) d x r = absurd (d refl)
-not-done NotDir d x r = refl
-not-done IsDir d x r = refl
-not-done BadName d x r = refl
-not-done EntryExist d x r = refl
-not-done EntryNotFound d x r = refl
-not-done DirNotEmpty d x r = refl
-not-done InvalidParam d x r = refl
-not-done TooManyLinks d x r = refl
-not-done NoDeviceSpace d x r = refl
-
-pub head-same : {A : Type 0} (d : Decoded) (r : A) (f : Head → A) → ((h : Head) → f h ≡ r) → ofHead d r f ≡ r
-head-same BadKind r f e = refl
-head-same (Good h) r f e = e h
 
 pub unlink-refused : (nb : ℕ) (img : List ℕ) (p : ℕ) (x : List ℕ) → actedNo (unlinkAnswer img p x) ≢ 0 → unlinkCard nb img p x ≡ img
 unfolding unlinkCard

@@ -1,6 +1,7 @@
 //! Plain looks at image bytes. Nothing here asks the Rust, and any bytes may be given.
 
 use std::collections::BTreeSet;
+use std::convert::TryInto;
 
 pub const BLOCK: usize = 4096;
 const MAGIC: u32 = 0x2f8d_be2b;
@@ -125,16 +126,26 @@ pub fn same_but_padding(
     }
 }
 
-/// Word by word: under an emulator the library's comparison by vectors is many times slower.
+/// Bytes that are compared at once.
+const PIECE: usize = 64;
+
+/// Piece by piece, of eight words each: under an emulator the library's comparison by vectors is many times slower.
 fn same(a: &[u8], b: &[u8], from: usize, to: usize) -> Result<(), usize> {
-    let words = (to - from) / 8;
-    let (a_words, b_words) = (&a[from..from + 8 * words], &b[from..from + 8 * words]);
-    let pairs = a_words.chunks_exact(8).zip(b_words.chunks_exact(8));
-    let equal = pairs.take_while(|(x, y)| x == y).count();
-    match (from + 8 * equal..to).find(|&i| a[i] != b[i]) {
+    let end = to - (to - from) % PIECE;
+    let pairs = a[from..end]
+        .chunks_exact(PIECE)
+        .zip(b[from..end].chunks_exact(PIECE));
+    let equal = pairs.take_while(|(x, y)| differing_bits(x, y) == 0).count();
+    match (from + PIECE * equal..to).find(|&i| a[i] != b[i]) {
         Some(differs) => Err(differs),
         None => Ok(()),
     }
+}
+
+fn differing_bits(a: &[u8], b: &[u8]) -> u64 {
+    let long = |bytes: &[u8]| u64::from_le_bytes(bytes.try_into().expect("eight bytes"));
+    let pairs = a.chunks_exact(8).zip(b.chunks_exact(8));
+    pairs.fold(0, |bits, (x, y)| bits | (long(x) ^ long(y)))
 }
 
 /// FNV-1a of 64 bits over the image, with the padding of the given records read as zero.

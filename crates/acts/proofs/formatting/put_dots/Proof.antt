@@ -49,7 +49,7 @@ returns c =
       c .before .before .before .before .before .before .before .copy .ensures,
       c .before .before .before .before .before .before .before .before .before .before .entry-of2 .ensures,
       c .before .before .before .before .before .before .before .before .before .before .before .before .entry-of .ensures,
-      c .before .before .before .before .before .before .before .before .before .before .before .before .before .before .root-block .ensures .0,
+      c .before .before .before .before .before .before .before .before .before .before .before .before .before .before .before .root-block .ensures .0,
     )
 
 pub put-dots-spec : {M : Type 1} → statement M

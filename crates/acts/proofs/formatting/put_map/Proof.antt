@@ -19,8 +19,8 @@ mul-zero c = search needs
 zero-requires : tie.Need-zero-requires
 zero-requires c κs = search needs
 
-add-set-bits : tie.Need-add-set-bits
-add-set-bits c = search needs
+add-from : tie.Need-add-from
+add-from c = search needs
 
 set-bits-requires : tie.Need-set-bits-requires
 set-bits-requires c κs = search needs
@@ -31,7 +31,7 @@ same-length c = search needs
 returns : tie.Need-returns
 unfolding freshMap
 returns c =
-    rw (c .before .before .set-bits .ensures, c .before .before .before .before .before .before .zero .ensures, c .before .before .before .before .before .before .before .before .root-block .ensures .0, c .before .before .before .before .before .before .before .before .before .maps-for .ensures .0)
+    rw (c .before .before .set-bits .ensures, c .before .before .before .before .before .before .before .zero .ensures, c .before .before .before .before .before .before .before .before .before .root-block .ensures .0, c .before .before .before .before .before .before .before .before .before .before .maps-for .ensures .0)
 
 pub put-map-spec : {M : Type 1} → statement M
 put-map-spec =
@@ -42,7 +42,7 @@ put-map-spec =
     cast-zero
     mul-zero
     zero-requires
-    add-set-bits
+    add-from
     set-bits-requires
     same-length
     returns)

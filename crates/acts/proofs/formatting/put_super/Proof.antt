@@ -22,7 +22,7 @@ same-length : tie.Need-same-length
 same-length c = search needs
 
 returns : tie.Need-returns
-returns c = rw (c .before .before .encode .ensures, c .before .before .before .before .root-block .ensures .0, c .before .before .before .before .before .maps-for .ensures .0)
+returns c = rw (c .before .before .encode .ensures, c .before .before .before .before .before .root-block .ensures .0, c .before .before .before .before .before .before .maps-for .ensures .0)
 
 pub put-super-spec : {M : Type 1} → statement M
 put-super-spec =

@@ -8,12 +8,12 @@ use Rattle.acts.proofs.formatting.root_block.Tie as tie
 maps-for-requires : tie.Need-maps-for-requires
 maps-for-requires c κs = search needs
 
-add-result : tie.Need-add-result
-add-result c = search needs
+add-b : tie.Need-add-b
+add-b c = search needs
 
 returns : tie.Need-returns
 unfolding firstAfterMap
 returns c = omega arith
 
 pub root-block-spec : {M : Type 1} → statement M
-root-block-spec = tie.close (tie.spec maps-for-requires add-result returns)
+root-block-spec = tie.close (tie.spec maps-for-requires add-b returns)

@@ -16,10 +16,10 @@ abbrev upTo : ℕ → ℕ → List ℕ → List ℕ
 upTo i b img = turns (λ k x. setBit x k) i (b - i) img
 
 abbrev Inv-loop : tie.InvT-loop
-Inv-loop image₀ nb from b₀ image b = (from ≤ b) × (b ≤ nb) × (length image ≡ length image₀) × (image ≡ upTo from b image₀)
+Inv-loop image₀ nb from image b = (from ≤ b) × (b ≤ nb) × (length image ≡ length image₀) × (image ≡ upTo from b image₀)
 
 abbrev μ-loop : tie.MeasureT-loop
-μ-loop image₀ nb from b₀ image b = nb - b
+μ-loop image₀ nb from image b = nb - b
 
 loop-holds : tie.Need-loop-holds Inv-loop μ-loop
 loop-holds c = (omega arith, omega arith, refl, turns-none _ _ _)
