@@ -1,23 +1,25 @@
--- Names compared: `eqs`, place by place, and how many bytes of an entry tell. Assumes nothing.
+-- Names compared: `eqs`, place by place and by the last eight bytes, and how many bytes of an entry tell. Assumes nothing.
 use mathlib.Core.Path.{_≡_, refl, sym, ap, _∙_, subst}
-use mathlib.Core.Bool.{Bool, true, false, false≢true}
+use mathlib.Core.Bool.{Bool, true, false, not, false≢true}
 use mathlib.Core.List.{List, [], _∷_}
-use Prim.Native.Nat.{ℕ, zero, suc, _+_, _*_, _/_, _%_, _≤_, _<_, min}
+use Prim.Native.Nat.{ℕ, zero, suc, _+_, _-_, _*_, _/_, _%_, _≤_, _<_, min}
 use native.Mathlib.Omega.{arith}
 use native.Mathlib.Decide.{ℕ-discrete, decLt}
-use borrow.Author.Tests.{eq-eqb, ne-eqb}
+use borrow.Author.Tests.{eq-eqb, ne-eqb, eqb-false, not-true, lt-ltb, le-ltb}
 use lib.Dec.{eqb}
 use lib.ListN.{length, getD, take, drop, length-drop, drop-of-length-le}
 use lib.Seq.{ext-getD, getD-take, getD-drop, length-take-le}
-use Rattle.words.specs.Words.{pick, byte}
+use Rattle.words.specs.Words.{pick, byte, num}
 use Rattle.words.proofs.Lists.{rest-cons}
+use Rattle.words.proofs.Numbers.{num-frame}
 use Rattle.layout.specs.Entry.{uptoNul}
-use Rattle.layout.proofs.Names.{nul-here, nul-next, nul-end, upto-le}
+use Rattle.layout.proofs.Names.{nul-here, nul-next, nul-end, upto-take, upto-le}
 use Rattle.card.specs.View.{dataAt, fileByte, fileBytes, name}
 use Rattle.card.proofs.Views.{name-at, length-fileBytes, getD-fileBytes}
 use Rattle.names.proofs.Entries.{byte-here}
 use Rattle.names.proofs.Scanning.{left}
 use Rattle.entries.specs.Entries.{eqs}
+use Rattle.entries.specs.Names.{tailDiffers}
 
 -- ---- one byte on
 
@@ -106,6 +108,31 @@ place-end e x i p z = rw (none, drop-of-length-le x {i = i} (omega arith)) eqs-n
         go : Dec (i < length e) → left e i ≡ []
         go (yes l) = nul-here e i l (ap (λ (k : ℕ). getD e k 0) p ∙ z)
         go (no l) = nul-end e i (omega arith)
+
+-- ---- the last eight bytes of x
+
+-- where it has fewer, the test tells nothing
+pub tail-short : (e x : List ℕ) → length x < 8 → tailDiffers e x ≡ false
+tail-short e x l = rw (lt-ltb (length x) 8 l)
+
+pub tail-long : (e x : List ℕ) (a b : ℕ) → 8 ≤ length x → a ≡ num 8 e (length x - 8) → b ≡ num 8 x (length x - 8) → tailDiffers e x ≡ not (eqb a b)
+tail-long e x a b l p q = rw (le-ltb (length x) 8 l, p, q)
+
+upto-byte : (e : List ℕ) (k : ℕ) → k < length (uptoNul e) → getD e k 0 ≡ getD (uptoNul e) k 0
+upto-byte e k l = sym (ap (λ (t : List ℕ). getD t k 0) (upto-take e) ∙ getD-take (length (uptoNul e)) e k 0 l)
+
+-- the same name has the same eight
+pub eqs-tail : (e x : List ℕ) → tailDiffers e x ≡ true → eqs (uptoNul e) x ≡ false
+eqs-tail e x t = eqs-differ (uptoNul e) x (go (decLt (length x) 8))
+  where
+    go : Dec (length x < 8) → uptoNul e ≡ x → ⊥
+    go (yes l) p = false≢true (sym (tail-short e x l) ∙ t)
+    go (no l) p =
+        let at = length x - 8 in
+        let bytes : num 8 e at ≡ num 8 x at =
+        num-frame 8 e x at (λ k m n. upto-byte e k (omega (arith, ap length p)) ∙ ap (λ (s : List ℕ). getD s k 0) p) in
+        let test : not (eqb (num 8 e at) (num 8 x at)) ≡ true = sym (tail-long e x (num 8 e at) (num 8 x at) (omega arith) refl refl) ∙ t in
+        eqb-false (num 8 e at) (num 8 x at) (not-true _ test) bytes
 
 -- ---- the bytes that tell
 

@@ -9,7 +9,7 @@ ghost use Rattle.layout.specs.Entry.{uptoNul};
 ghost use Rattle.card.specs.View.{dataAt, entries, name};
 ghost use Rattle.names.specs.Reading.{Readable};
 ghost use Rattle.entries.specs.Entries.{eqs, whereIs};
-ghost use Rattle.entries.specs.Names.{isDots, noNul, storable};
+ghost use Rattle.entries.specs.Names.{isDots, noNul, storable, tailDiffers};
 use layout::BlockId;
 use layout::INodeId;
 use names::reading;
@@ -42,7 +42,19 @@ fn begins(e: &[u8], x: &[u8]) -> bool
     true
 }
 
-// Whether what stands before the first NUL of e is x. Most names fall to the first test.
+// Whether the last eight bytes of x, if it has so many, are others in e: names of one kind differ near their end.
+fn tail_differs(e: &[u8], x: &[u8]) -> bool
+    requires { ⌜ length (now x) ≤ length (now e) ⌝ }
+    ensures { λ r. ⌜ r ≡ tailDiffers (now (e .entry)) (now (x .entry)) ⌝ }
+{
+    if x.len() < 8 {
+        return false;
+    }
+    let at = x.len() - 8;
+    words::get64(e, at) != words::get64(x, at)
+}
+
+// Whether what stands before the first NUL of e is x. Most names fall to the first test, and most others of x's length to the third.
 fn same(e: &[u8], x: &[u8]) -> bool
     ensures { λ r. ⌜ r ≡ eqs (uptoNul (now (e .entry))) (now (x .entry)) ⌝ }
 {
@@ -50,6 +62,9 @@ fn same(e: &[u8], x: &[u8]) -> bool
         return false;
     }
     if e.len() < x.len() {
+        return false;
+    }
+    if tail_differs(e, x) {
         return false;
     }
     begins(e, x)
