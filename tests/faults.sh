@@ -1,10 +1,24 @@
 # shellcheck shell=bash disable=SC2034,SC2154
-# Sourced by the scripts that put faults into the stand-in, one at a time, and see whether the tests notice them. They
-# use `root` and `out`. A fault is a line: the text on the left of ==> for the one on the right, ";;" between several, \n for the
-# end of a line.
+# Sourced by the scripts that put faults into the stand-in, one at a time, and see whether the tests notice them, by the
+# rustc of PATH. They use `root`. A fault is a line: the name of a file of tests/standin and a colon, then the text on the left of
+# ==> for the one on the right, ";;" between several, \n for the end of a line.
 
 found=0
 missed=0
+
+# begin_faults NAME: what the faults for the tests of that name need besides; `oracle` is where the unchanged Rust is
+begin_faults() {
+    read_options "--host" --host
+    use_tools
+    out=$root/target/$1/faults
+    rm -rf "$out"
+    mkdir -p "$out/lib"
+    # A fault leaves some things unused.
+    flags=(--cap-lints allow)
+    oracle=$root/target/oracle/host
+    "$root/tests/oracle/build.sh" "$oracle" release
+    compile kit "$root/tests/check/kit.rs" --crate-type rlib --out-dir "$out/lib"
+}
 
 # edited TEXT LINE: `wrong` is the text with the fault. A fault whose text is not there ends the script.
 edited() {
@@ -63,8 +77,22 @@ judge() {
     fi
 }
 
-# The count; fails where a fault was missed.
-all_found() {
+# each_fault TEXT COMMAND..: standard input has the faults. Those whose line holds TEXT are put in, one at a time; the script's `build`
+# makes the tests with it, and COMMAND must notice it. Fails where one was missed.
+each_fault() {
+    local text=$1 line where
+    shift
+    standin_with lib "$(cat "$root/tests/standin/lib.rs")"
+    build
+    sound "$@"
+    while IFS= read -r line; do
+        case $line in *"$text"*) ;; *) continue ;; esac
+        where=${line%%: *}
+        edited "$(cat "$root/tests/standin/$where.rs")" "${line#*: }"
+        standin_with "$where" "$wrong"
+        build
+        judge "$line" "$@"
+    done
     echo "faults: $found found, $missed missed"
     [ $missed -eq 0 ]
 }

@@ -10,34 +10,14 @@ root=$(cd "$here/../.." && pwd)
 . "$here/../tools.sh"
 # shellcheck source=../faults.sh
 . "$here/../faults.sh"
-read_options "--host" --host
-use_tools
-out=$root/target/calls/faults
-rm -rf "$out"
-mkdir -p "$out/standin" "$out/lib"
+begin_faults calls
 
-# A fault leaves some things unused.
-flags=(--cap-lints allow)
-oracle=$root/target/oracle/host
-"$here/../oracle/build.sh" "$oracle" release
-compile kit "$here/../check/kit.rs" --crate-type rlib --out-dir "$out/lib"
-test=("$out/calls_test" --seconds "${CALLS_SECONDS:-10}")
-
-# put FILE TEXT: the test, with this in that file of the stand-in and the others as they are
-put() {
-    standin_with "$1" "$2"
+build() {
     compile calls_test "$here/main.rs" --extern kit -L "$oracle/release" --extern oracle -o "$out/calls_test"
 }
 
-put lib "$(cat "$here/../standin/lib.rs")"
-sound "${test[@]}"
-while IFS= read -r line; do
-    case $line in *"${1:-}"*) ;; *) continue ;; esac
-    where=${line%%: *}
-    edited "$(cat "$here/../standin/$where.rs")" "${line#*: }"
-    put "$where" "$wrong"
-    judge "$line" "${test[@]}"
-done <<'END'
+test=("$out/calls_test" --seconds "${CALLS_SECONDS:-10}")
+each_fault "${1:-}" "${test[@]}" <<'END'
 check: if image.len() < BLOCK { ==> if image.len() < BLOCK && (image.len() < 4 || word(image, 0) == MAGIC) {
 check: if word(image, 0) != MAGIC { ==> if word(image, 0) != MAGIC && word(image, 44) == 1 {
 check: !(16..=32_768).contains(&blocks) ==> !(15..=32_768).contains(&blocks)
@@ -77,4 +57,3 @@ card: let blocks = space / BLOCK as u64 + u64::from(space % BLOCK as u64 > 0); =
 card: || image.len() < blocks as usize * BLOCK { ==> || image.len() + 1 < blocks as usize * BLOCK {
 card:         return Err(INVALID_PARAM);\n ==>         if image.len() >= 48 && blocks > 15 {\n put(image, 44, 1);\n }\n return Err(INVALID_PARAM);\n
 END
-all_found

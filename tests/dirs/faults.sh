@@ -1,6 +1,6 @@
 #!/usr/bin/env bash
-# Do these tests notice a fault? Each line below is one in tests/standin/dirs.rs, as tests/faults.sh says, or after
-# "lib: " or "card: " in that file. dirs_test must find every one; where it does not, that is printed.
+# Do these tests notice a fault? Each line below is one, as tests/faults.sh says. dirs_test must find every one; where it does not,
+# that is printed.
 # By the rustc of PATH, for this machine; some four minutes. DIRS_SECONDS: time for the days of one fault. DIRS_ONLY: one
 # part of the tests alone (edges, cases or days). An argument: only the faults that hold this text.
 set -euo pipefail
@@ -10,35 +10,15 @@ root=$(cd "$here/../.." && pwd)
 . "$here/../tools.sh"
 # shellcheck source=../faults.sh
 . "$here/../faults.sh"
-read_options "--host" --host
-use_tools
-out=$root/target/dirs/faults
-rm -rf "$out"
-mkdir -p "$out/lib"
+begin_faults dirs
 
-# A fault leaves some things unused.
-flags=(--cap-lints allow)
-oracle=$root/target/oracle/host
-"$here/../oracle/build.sh" "$oracle" release
-compile kit "$here/../check/kit.rs" --crate-type rlib --out-dir "$out/lib"
-test=("$out/dirs_test" --seconds "${DIRS_SECONDS:-10}")
-[ -z "${DIRS_ONLY:-}" ] || test+=(--only "$DIRS_ONLY")
-
-# put NAME TEXT: the tests, with this in that file of the stand-in
-put() {
-    standin_with "$1" "$2"
+build() {
     compile dirs_test "$here/main.rs" --extern kit -L "$oracle/release" --extern oracle -o "$out/dirs_test"
 }
 
-put dirs "$(cat "$here/../standin/dirs.rs")"
-sound "${test[@]}"
-while IFS= read -r line; do
-    case $line in *"${1:-}"*) ;; *) continue ;; esac
-    where=${line%%: *}
-    edited "$(cat "$here/../standin/$where.rs")" "${line#*: }"
-    put "$where" "$wrong"
-    judge "$line" "${test[@]}"
-done <<'END'
+test=("$out/dirs_test" --seconds "${DIRS_SECONDS:-10}")
+[ -z "${DIRS_ONLY:-}" ] || test+=(--only "$DIRS_ONLY")
+each_fault "${1:-}" "${test[@]}" <<'END'
 dirs: files::store(image, record(number), ENTRY, &target.to_le_bytes()); ==> 
 dirs: room(image, growth(image, to))?; ==> 
 dirs: room(image, growth(image, to))?; ==> room(image, growth(image, to).saturating_sub(usize::from(word(image, from) as usize % BLOCK <= ENTRY)))?;
@@ -64,4 +44,3 @@ lib: &[dir, target] ==> &[dir]
 lib: *value = answer.unwrap_or(0); ==> if let Ok(number) = answer {\n *value = number;\n }
 card: image[..48].fill(0); ==> image[..BLOCK].fill(0);
 END
-all_found

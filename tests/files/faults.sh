@@ -10,35 +10,15 @@ root=$(cd "$here/../.." && pwd)
 . "$here/../tools.sh"
 # shellcheck source=../faults.sh
 . "$here/../faults.sh"
-read_options "--host" --host
-use_tools
-out=$root/target/files/faults
-rm -rf "$out"
-mkdir -p "$out/lib"
+begin_faults files
 
-# A fault leaves some things unused.
-flags=(--cap-lints allow)
-oracle=$root/target/oracle/host
-"$here/../oracle/build.sh" "$oracle" release
-compile kit "$here/../check/kit.rs" --crate-type rlib --out-dir "$out/lib"
-test=("$out/files_test" --seconds "${FILES_SECONDS:-20}")
-[ -z "${FILES_ONLY:-}" ] || test+=(--only "$FILES_ONLY")
-
-# put NAME TEXT: the tests, with this in that file of the stand-in
-put() {
-    standin_with "$1" "$2"
+build() {
     compile files_test "$here/main.rs" --extern kit -L "$oracle/release" --extern oracle -o "$out/files_test"
 }
 
-put files "$(cat "$here/../standin/files.rs")"
-sound "${test[@]}"
-while IFS= read -r line; do
-    case $line in *"${1:-}"*) ;; *) continue ;; esac
-    where=${line%%: *}
-    edited "$(cat "$here/../standin/$where.rs")" "${line#*: }"
-    put "$where" "$wrong"
-    judge "$line" "${test[@]}"
-done <<'END'
+test=("$out/files_test" --seconds "${FILES_SECONDS:-20}")
+[ -z "${FILES_ONLY:-}" ] || test+=(--only "$FILES_ONLY")
+each_fault "${1:-}" "${test[@]}" <<'END'
 files: if old < DIRECT && new >= DIRECT { ==> if old < 13 && new >= 13 { ;; usize::from(b >= DIRECT) ==> usize::from(b > DIRECT) ;; if old >= DIRECT && new < DIRECT { ==> if old > DIRECT && new <= DIRECT { ;; if old >= DIRECT && new < DIRECT { ==> if old > DIRECT && new <= DIRECT {
 files: zero(image, file, size, len); ==> zero(image, file, size, new * BLOCK);
 files: zero(image, file, size, len); ==> zero(image, file, old * BLOCK, len);
@@ -88,4 +68,3 @@ lib: *value = answer.unwrap_or(0); ==> if let Ok(count) = answer {\n *value = co
 lib: let opened = check::open(image, lent_mut(scratch, scratch_len), &[inode]);\n    status(opened.and_then(|()| files::resize( ==> let opened: Result<(), u32> = Ok(());\n let _ = (scratch, scratch_len);\n    status(opened.and_then(|()| files::resize(
 lib: opened.and_then(|()| files::write( ==> opened.and_then(|()| files::resize(image, inode, offset).and(Ok(0))).and_then(|_: u32| files::write(
 END
-all_found
