@@ -1,9 +1,6 @@
 // Find, the entry at an index, and what an inode is: the card is opened for the inode, and nothing changes.
 ghost use mathlib.Core.Path.{_≡_};
-ghost use Prim.Native.Nat.{_+_, _*_, _≤_};
-ghost use lib.ListN.{length};
-ghost use Rattle.layout.specs.Inode.{size, kind, links, count, decoded};
-ghost use Rattle.layout.specs.declared.inode.Decoded.the-variants.{BadKind};
+ghost use Rattle.layout.specs.Inode.{kindNo};
 ghost use Rattle.sfs.specs.DirCalls.{Found, Listed, Described};
 ghost use Rattle.sfs.specs.declared.said.Said.the-variants.{Done};
 use crate::said;
@@ -12,6 +9,7 @@ use acts::looking;
 use layout::INodeId;
 use layout::inode;
 use layout::inode::Decoded;
+use layout::inode::Head;
 use walk::Opened;
 
 pub fn find(image: &[u8], scratch: &mut [u32], p: INodeId, x: &[u8]) -> Said
@@ -69,14 +67,10 @@ fn not_described(said: Said) -> Description
     }
 }
 
-// Inode n of a card, whose kind is one of the three.
-fn describe(image: &[u8], n: INodeId) -> Description
-    requires { ⌜ (4096 * n .0 + 80 ≤ length (now image)) × (decoded (now image) (n .0) ≡ BadKind → ⊥) ⌝ }
-    ensures { λ r. ⌜ (r .said ≡ Done 0) × (r .kind ≡ kind (now (image .entry)) (n .0)) × (r .size ≡ size (now (image .entry)) (n .0)) × (r .blocks ≡ count (now (image .entry)) (n .0)) × (r .links ≡ links (now (image .entry)) (n .0)) ⌝ }
+// An inode with the head h.
+fn described(h: Head) -> Description
+    ensures { λ r. ⌜ (r .said ≡ Done 0) × (r .kind ≡ kindNo (h .«type_»)) × (r .size ≡ h .size) × (r .blocks ≡ h .blocks) × (r .links ≡ h .nlinks) ⌝ }
 {
-    let Decoded::Good(h) = inode::decode(image, n) else {
-        return not_described(Said::Damaged);
-    };
     let kind = h.type_;
     let k = inode::kind_no(kind);
     Description {
@@ -95,5 +89,8 @@ pub fn metadata(image: &[u8], scratch: &mut [u32], n: INodeId) -> Description
     let Opened::Open(_) = o else {
         return not_described(said::of_opened(o));
     };
-    describe(image, n)
+    let Decoded::Good(h) = inode::decode(image, n) else {
+        return not_described(Said::Damaged);
+    };
+    described(h)
 }

@@ -57,6 +57,7 @@ pub mod MoveCarry
 pub mod MoveTests
 pub mod MoveJudged
 pub mod MoveCard
+pub mod MoveTakes
 pub mod LookTests
 pub mod Frame
 pub mod Refusals
