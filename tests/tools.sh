@@ -6,7 +6,7 @@
 #   RUN    what runs a program it built: nothing on x86-64, the emulator with its flags elsewhere
 # Elsewhere the programs are static: the emulator has no libraries of x86-64 to load.
 #
-# What the scripts share besides: read_options, use_tools, compile, take_archive, step. They use `root` and `out`.
+# What the scripts share besides: read_options, use_tools, compile, take_archive, build_beside, step. They use `root` and `out`.
 
 outside_tools_missing() {
     local file missing=()
@@ -119,6 +119,18 @@ take_archive() {
         return 1
     fi
     cp "$archive" "$out/lib/libsfs.a"
+}
+
+# build_beside NAME: the tests of that name with the archive to test and the unchanged Rust, as $out/NAME_test
+build_beside() {
+    use_tools
+    out=$root/target/$1/$place
+    mkdir -p "$out/lib"
+    take_archive "$root/tests/standin/lib.rs"
+    compile kit "$root/tests/check/kit.rs" --crate-type rlib --out-dir "$out/lib"
+    "$root/tests/oracle/build.sh" "$root/target/oracle/$place" release
+    compile "$1_test" "$root/tests/$1/main.rs" --extern kit -L "$root/target/oracle/$place/release" --extern oracle \
+        -o "$out/$1_test"
 }
 
 failed=0

@@ -15,13 +15,7 @@ root=$(cd "$here/../.." && pwd)
 . "$here/../tools.sh"
 
 read_options "--stand-in --host" "$@"
-use_tools
-out=$root/target/calls/$place
-mkdir -p "$out/lib"
-take_archive "$here/../standin/lib.rs"
-compile kit "$here/../check/kit.rs" --crate-type rlib --out-dir "$out/lib"
-"$here/../oracle/build.sh" "$root/target/oracle/$place" release
-compile calls_test "$here/main.rs" --extern kit -L "$root/target/oracle/$place/release" --extern oracle -o "$out/calls_test"
+build_beside calls
 
 step calls "${run[@]}" "$out/calls_test" --seed "${CALLS_SEED:-1}" --seconds "${CALLS_SECONDS:-40}" \
     --cards "${CALLS_CARDS:-1000000}"

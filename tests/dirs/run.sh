@@ -16,13 +16,7 @@ root=$(cd "$here/../.." && pwd)
 . "$here/../tools.sh"
 
 read_options "--stand-in --host --long" "$@"
-use_tools
-out=$root/target/dirs/$place
-mkdir -p "$out/lib"
-take_archive "$here/../standin/lib.rs"
-compile kit "$here/../check/kit.rs" --crate-type rlib --out-dir "$out/lib"
-"$here/../oracle/build.sh" "$root/target/oracle/$place" release
-compile dirs_test "$here/main.rs" --extern kit -L "$root/target/oracle/$place/release" --extern oracle -o "$out/dirs_test"
+build_beside dirs
 
 seconds=35
 words=()
