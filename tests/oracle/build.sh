@@ -38,6 +38,11 @@ fi
 src=$out/src
 lib=$out/$profile
 
+# One build at a time: tests that run beside each other share it.
+mkdir -p "$out"
+exec 9>"$out/lock"
+flock 9
+
 # Nothing to do where compiler, flags and every file are those of the last build.
 state=$(
     "${rustc[@]}" --version
