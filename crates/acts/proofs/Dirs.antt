@@ -12,7 +12,8 @@ use Rattle.layout.specs.declared.inode.Head.{Head}
 use Rattle.layout.specs.declared.inode.Decoded.the-variants.{Good}
 use Rattle.card.specs.View.{entries, entry}
 use Rattle.card.specs.Whole.{Reached, Whole}
-use Rattle.acts.specs.Answers.{isDir}
+use Rattle.entries.specs.Entries.{whereIs}
+use Rattle.acts.specs.Answers.{isDir, namedBy}
 use Rattle.acts.proofs.Ready.{size-ready, entries-inside, dir-ready, entry-reached}
 use Rattle.acts.proofs.Heads.{HeadIs, head-is}
 
@@ -41,3 +42,7 @@ module _ (img : List ℕ) (w : Whole img) (n : ℕ) (r : Reached img n) where
 
     pub named-reached : kind img n ≡ 2 → (c : ℕ) → c ≡ entry img n k → Reached img c
     named-reached d c e = subst (Reached img) (sym e) (entry-reached img w n r d k l)
+
+-- the inode that entry k names, where k is that of x
+pub named-is : (img : List ℕ) (p : ℕ) (x : List ℕ) (k c : ℕ) → k ≡ whereIs img p x → c ≡ entry img p k → c ≡ namedBy img p x
+named-is img p x k c i j = j ∙ ap (entry img p) i

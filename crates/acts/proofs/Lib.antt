@@ -2,10 +2,3 @@ pub mod Ready
 pub mod Heads
 pub mod Refused
 pub mod Dirs
-pub mod CreateLaws
-pub mod LinkLaws
-pub mod FormatLaws
-pub mod UnlinkLaws
-pub mod Climbing
-pub mod MoveLaws
-pub mod LookLaws

@@ -17,7 +17,7 @@ use Rattle.card.proofs.Owners.{held-below}
 use Rattle.card.proofs.Counting.{count-below}
 use Rattle.card.proofs.Tree.{reached-listed}
 use Rattle.names.specs.Reading.{Readable}
-use Rattle.blocks.specs.Steps.{Sizes}
+use Rattle.blocks.specs.Shape.{Sizes}
 
 pub sizes-whole : (img : List ℕ) → Whole img → Sizes img (blocks img)
 sizes-whole img w = let z = w .sound .sized in record { few = z .few; many = z .many; long = z .long }

@@ -5,11 +5,12 @@ use mathlib.Core.List.{[], _∷_}
 use types.Run.{OneOf, miss}
 use denote.Enum.Declared.{tagOf}
 use Prim.Native.Nat.{ℕ}
+use native.Mathlib.Omega.{arith}
 use Rattle.words.specs.Words.{pick}
 use Rattle.layout.specs.declared.inode.Head.{Head}
 use Rattle.layout.specs.declared.inode.Decoded.{Decoded}
 use Rattle.layout.specs.declared.inode.Decoded.the-variants.{Good, BadKind}
-use Rattle.acts.specs.Answers.{actedNo, ifDone, ofHead}
+use Rattle.acts.specs.Answers.{actedNo, actedValue, ifDone, ofHead}
 use Rattle.acts.proofs.Acted.{the-type as acted-type}
 use Rattle.acts.specs.declared.Acted.{Acted}
 use Rattle.acts.specs.declared.Acted.the-variants.{
@@ -83,3 +84,16 @@ test-passed false j r v d e = (refl, e)
 pub test-held : (t : Bool) (j r : Acted) (v : ℕ) → (actedNo r ≡ 0 → ⊥) → pick t j r ≡ Done v → (t ≡ true) × (j ≡ Done v)
 test-held true j r v d e = (refl, e)
 test-held false j r v d e = absurd (not-done r v d e)
+
+-- an answer with the number 0 is done
+pub done-is : (j : Acted) → actedNo j ≡ 0 → j ≡ Done (actedValue j)
+done-is (Done v) e = refl
+done-is NotDir e = absurd (omega (arith, e))
+done-is IsDir e = absurd (omega (arith, e))
+done-is BadName e = absurd (omega (arith, e))
+done-is EntryExist e = absurd (omega (arith, e))
+done-is EntryNotFound e = absurd (omega (arith, e))
+done-is DirNotEmpty e = absurd (omega (arith, e))
+done-is InvalidParam e = absurd (omega (arith, e))
+done-is TooManyLinks e = absurd (omega (arith, e))
+done-is NoDeviceSpace e = absurd (omega (arith, e))

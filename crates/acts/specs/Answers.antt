@@ -7,6 +7,8 @@ use Rattle.layout.specs.declared.inode.FileType.the-variants.{File, Dir, SymLin
 use Rattle.layout.specs.declared.inode.Head.{Head}
 use Rattle.layout.specs.declared.inode.Decoded.{Decoded}
 use Rattle.layout.specs.declared.inode.Decoded.the-variants.{Good, BadKind}
+use Rattle.card.specs.View.{entry}
+use Rattle.entries.specs.Entries.{whereIs}
 use Rattle.acts.specs.declared.Acted.{Acted}
 use Rattle.acts.specs.declared.Acted.the-variants.{
   Done,
@@ -72,3 +74,7 @@ ofHead (Good h) r f = f h
 -- the most links that a record can count
 abbrev pub fullLinks : ℕ
 fullLinks = 65535
+
+-- the inode that directory p names x
+abbrev pub namedBy : List ℕ → ℕ → List ℕ → ℕ
+namedBy img p x = entry img p (whereIs img p x)

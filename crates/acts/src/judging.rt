@@ -1,6 +1,6 @@
 // The tests that the calls on directories share. What they look at is a whole card.
 ghost use mathlib.Core.Path.{_≡_};
-ghost use Prim.Native.Nat.{_+_, _*_, _≤_};
+ghost use Prim.Native.Nat.{_+_, _-_, _*_, _≤_};
 ghost use lib.ListN.{length};
 ghost use Rattle.words.specs.Words.{pick};
 ghost use Rattle.layout.specs.Inode.{decoded};
@@ -100,4 +100,11 @@ pub fn entry_needs(h: Head) -> usize
         return 0;
     }
     new - old
+}
+
+// Links that are left, by what is taken of them.
+pub fn less(v: u16, by: u16) -> u16
+    ensures { λ r. ⌜ r ≡ v - by ⌝ }
+{
+    if v < by { 0 } else { v - by }
 }

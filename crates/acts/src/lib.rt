@@ -1,11 +1,5 @@
-// Create, link, unlink, move and format: the calls on directories of rcore-fs-sfs, with 01's tests before any change.
-pub mod creating;
-pub mod formatting;
+// What the calls on directories of rcore-fs-sfs share: their answers, and the tests that more than one of them makes.
 pub mod judging;
-pub mod linking;
-pub mod looking;
-pub mod moving;
-pub mod unlinking;
 
 // The answer to a call on a directory: a number where it has one, or one of 01's refusals 6 to 14.
 pub enum Acted {

@@ -1,13 +1,5 @@
 pub mod Ranges
 pub mod Lengths
 pub mod Walk
-pub mod ReadBytes
-pub mod FillBytes
-pub mod FileBytes
-pub mod Sound
 pub mod Picks
 pub mod Growth
-pub mod Freeing
-pub mod Following
-pub mod Taken
-pub mod Runs

@@ -1,3 +1,3 @@
+pub mod Shape
 pub mod Bytes
 pub mod Taking
-pub mod Steps

@@ -1,13 +1,13 @@
 // Entries read, written, appended and removed, on a card of nb blocks: d is the record of directory n as the card has it.
 ghost use mathlib.Core.Path.{_≡_};
 ghost use Prim.Native.Nat.{_+_, _*_, _≤_, _<_};
-ghost use Rattle.blocks.specs.Steps.{Sizes};
+ghost use Rattle.blocks.specs.Shape.{Sizes};
 ghost use Rattle.entries.specs.Entries.{entryAt, entryPut, appended, removed};
-use blocks::filling;
-use blocks::reading;
 use files::resizing;
+use filling;
 use layout::INodeId;
 use layout::inode::DiskINode;
+use reading;
 
 // The 260 bytes of entry k.
 pub fn read_entry(image: &[u8], nb: u32, n: INodeId, k: usize) -> [u8; 260]

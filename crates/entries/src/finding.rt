@@ -12,7 +12,7 @@ ghost use Rattle.entries.specs.Entries.{eqs, whereIs};
 ghost use Rattle.entries.specs.Names.{isDots, noNul, storable, tailDiffers};
 use layout::BlockId;
 use layout::INodeId;
-use names::reading;
+use names::loading;
 
 // Whether no name goes past byte k of e: a NUL is there, or nothing.
 fn ends_at(e: &[u8], k: usize) -> bool
@@ -82,7 +82,7 @@ fn named_far(image: &[u8], n: INodeId, k: usize, x: &[u8]) -> bool
     requires { ⌜ Readable (now image) (n .0) × (260 * k + 260 ≤ 4096 * count (now image) (n .0)) ⌝ }
     ensures { λ r. ⌜ r ≡ eqs (name (now (image .entry)) (n .0) k) (now (x .entry)) ⌝ }
 {
-    let e = reading::load_entry(image, n, k);
+    let e = loading::load_entry(image, n, k);
     same(&e[4..260], x)
 }
 
@@ -106,13 +106,13 @@ pub fn find_entry(image: &[u8], n: INodeId, total: usize, x: &[u8]) -> usize
     ensures { λ r. ⌜ r ≡ whereIs (now (image .entry)) (n .0) (now (x .entry)) ⌝ }
 {
     let w = telling(x.len());
-    let p = reading::nowhere(n);
+    let p = loading::nowhere(n);
     let mut c = p.index;
     let mut b = p.block;
     let mut k = 0;
     while k < total {
         let i = 260 * k / 4096;
-        b = reading::get_near(image, n, c, b, i);
+        b = loading::get_near(image, n, c, b, i);
         c = i;
         if named(image, n, b, k, w, x) {
             return k;

@@ -6,9 +6,9 @@ use native.Mathlib.Omega.{arith}
 use Rattle.layout.specs.Sizes.{blocksFor}
 use Rattle.layout.specs.Inode.{withSize, encoded}
 use Rattle.layout.specs.declared.inode.DiskINode.{DiskINode}
-use Rattle.blocks.specs.declared.growing.Took.{Took}
+use Rattle.growing.specs.declared.Took.{Took}
 use Rattle.blocks.specs.Taking.{grown, shrunk, lessIndirect, lessDouble}
-use Rattle.blocks.specs.Steps.{growingAt, Grew}
+use Rattle.growing.specs.Steps.{growingAt, Grew}
 use Rattle.blocks.proofs.Picks.{pick-yes, pick-no}
 use Rattle.files.specs.Resizing.{ofLength, lengthened, cleaned, longer, mostBlocks, fileBlocks, shorter, resized}
 use Rattle.files.specs.Requests.{reaching}

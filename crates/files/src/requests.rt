@@ -6,13 +6,12 @@ ghost use lib.ListN.{length};
 ghost use Rattle.layout.specs.Inode.{decoded};
 ghost use Rattle.layout.specs.declared.inode.Decoded.the-variants.{Good, BadKind};
 ghost use Rattle.blocks.specs.Bytes.{filled};
-ghost use Rattle.blocks.specs.Steps.{Sizes};
+ghost use Rattle.blocks.specs.Shape.{Sizes};
 ghost use Rattle.files.specs.Requests.{filedNo, filedCount, byFile, judged, recordWith, resizeAnswer, resizeCard, endOf, writeJudged, reaching, writeAnswer, writeCard, readAnswer, readBuffer};
 use crate::Filed;
 use crate::resizing;
-use blocks::filling;
 use blocks::pieces;
-use blocks::reading;
+use filling;
 use layout::INodeId;
 use layout::inode;
 use layout::inode::Decoded;
@@ -21,6 +20,7 @@ use layout::inode::FileType;
 use layout::inode::Head;
 use layout::slot;
 use layout::superblock;
+use reading;
 
 // 01's number of an answer, and its count.
 pub fn status_of(r: Filed) -> u32

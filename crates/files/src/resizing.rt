@@ -3,17 +3,17 @@ ghost use mathlib.Core.Path.{_≡_};
 ghost use Prim.Native.Nat.{_*_, _≤_, _<_, min};
 ghost use lib.ListN.{length};
 ghost use Rattle.layout.specs.Sizes.{blocksFor};
-ghost use Rattle.blocks.specs.Steps.{Sizes};
+ghost use Rattle.blocks.specs.Shape.{Sizes};
 ghost use Rattle.files.specs.Resizing.{ofLength, lengthened, cleaned, longer, fileBlocks, shorter, resized};
-use blocks::filling;
-use blocks::growing;
-use blocks::growing::Took;
 use blocks::pieces;
-use blocks::shrinking;
+use filling;
+use growing;
+use growing::Took;
 use layout::BlockId;
 use layout::INodeId;
 use layout::inode;
 use layout::inode::DiskINode;
+use shrinking;
 
 pub fn blocks_for(len: usize) -> usize
     requires { ⌜ len ≤ 4294967295 ⌝ }

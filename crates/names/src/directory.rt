@@ -12,7 +12,7 @@ ghost use Rattle.card.specs.View.{name, entries, dataAt};
 ghost use Rattle.card.specs.Whole.{Inode, Dir};
 ghost use Rattle.names.specs.Reading.{Readable};
 ghost use Rattle.names.specs.Names.{Names, Dots, hash, tag, Chains, Alone, Window};
-use crate::reading;
+use crate::loading;
 use layout::BlockId;
 use layout::INodeId;
 
@@ -60,7 +60,7 @@ fn look_far(image: &[u8], n: INodeId, k: usize) -> Scanned
     requires { ⌜ Readable (now image) (n .0) × (260 * k + 260 ≤ 4096 * count (now image) (n .0)) ⌝ }
     ensures { λ r. ⌜ (r .len ≡ length (name (now (image .entry)) (n .0) k)) × (r .hash ≡ hash (name (now (image .entry)) (n .0) k)) ⌝ }
 {
-    let e = reading::load_entry(image, n, k);
+    let e = loading::load_entry(image, n, k);
     scan(&e[4..260])
 }
 
@@ -130,8 +130,8 @@ fn alone(
     while 0 < c {
         let x = w[h + (c - 1)];
         if x / 65536 == t {
-            let e = reading::load_entry(image, n, lo + (c - 1));
-            let f = reading::load_entry(image, n, j);
+            let e = loading::load_entry(image, n, lo + (c - 1));
+            let f = loading::load_entry(image, n, j);
             if same_name(&e, &f) {
                 return false;
             }
@@ -159,12 +159,12 @@ fn window(image: &[u8], w: &mut [u32], n: INodeId, e: usize, h: usize, m: usize,
 {
     zero(w, h);
     let mut c = 260 * lo / 4096;
-    let mut b = reading::get_disk_block_id(image, n, c);
+    let mut b = loading::get_disk_block_id(image, n, c);
     let mut j = lo;
     let mut k = 0;
     while j < e {
         let i = 260 * j / 4096;
-        b = reading::get_near(image, n, c, b, i);
+        b = loading::get_near(image, n, c, b, i);
         c = i;
         let s = look(image, n, b, j);
         if s.len < 1 {
@@ -217,15 +217,15 @@ fn dots_ok(image: &[u8], n: INodeId) -> bool
     requires { ⌜ Readable (now image) (n .0) × (520 ≤ 4096 * count (now image) (n .0)) ⌝ }
     ensures { λ r. ⌜ When r (Dots (now (image .entry)) (n .0)) (Dots (now (image .entry)) (n .0) → ⊥) ⌝ }
 {
-    let own = reading::entry_number(image, n, 0);
+    let own = loading::entry_number(image, n, 0);
     if own.0 != n.0 {
         return false;
     }
-    let a = reading::load_entry(image, n, 0);
+    let a = loading::load_entry(image, n, 0);
     if !is_dot(&a) {
         return false;
     }
-    let b = reading::load_entry(image, n, 1);
+    let b = loading::load_entry(image, n, 1);
     is_dots(&b)
 }
 

@@ -2,13 +2,13 @@
 use crate::frame::Frame;
 use crate::frame::Got;
 use crate::made;
+use dir_calls;
+use file_calls;
 use layout::INodeId;
+use look_calls;
+use said;
+use said::Said;
 use sfs::c_looks;
-use sfs::dir_calls;
-use sfs::file_calls;
-use sfs::look_calls;
-use sfs::said;
-use sfs::said::Said;
 
 pub const FORMAT: u32 = 3;
 

@@ -9,9 +9,10 @@ use Rattle.files.specs.Requests.{resizeAnswer, resizeCard, writeAnswer, writeCa
 use Rattle.walk.specs.declared.Opened.{Opened}
 use Rattle.walk.specs.Opening.{Opening}
 use Rattle.walk.proofs.Agree.{agree}
-use Rattle.sfs.specs.Said.{saidNo, saidValue, ifOpen, ofOpened, ofFiled}
-use Rattle.sfs.specs.FileCalls.{Read, Written, Sized, ReadC, WrittenC, SizedC}
-use Rattle.sfs.specs.declared.said.Said.{Said}
+use Rattle.said.specs.Said.{saidNo, saidValue, ifOpen, ofOpened, ofFiled}
+use Rattle.file_calls.specs.FileCalls.{Read, Written, Sized}
+use Rattle.sfs.specs.FileCallsC.{ReadC, WrittenC, SizedC}
+use Rattle.said.specs.declared.Said.{Said}
 
 -- what depends on the opening alone is the same of two openings
 pub by-opening : {A : Type 0} (f : Opened → A) {o p : Opened} {x y : A} → o ≡ p → x ≡ f o → y ≡ f p → x ≡ y

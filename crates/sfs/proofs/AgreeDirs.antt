@@ -5,17 +5,18 @@ use mathlib.Core.Path.{_≡_, refl, sym, ap, _∙_}
 use mathlib.Core.List.{List}
 use Rattle.layout.specs.Super.{blocks}
 use Rattle.layout.specs.Inode.{size, kind, links, count}
-use Rattle.acts.specs.Create.{createAnswer, createCard}
-use Rattle.acts.specs.Link.{linkAnswer, linkCard}
-use Rattle.acts.specs.Unlink.{unlinkAnswer, unlinkCard}
-use Rattle.acts.specs.Move.{moveAnswer, moveCard}
-use Rattle.acts.specs.Look.{findAnswer, entryAnswer, noEntry, entryBytes}
+use Rattle.creating.specs.Create.{createAnswer, createCard}
+use Rattle.linking.specs.Link.{linkAnswer, linkCard}
+use Rattle.unlinking.specs.Unlink.{unlinkAnswer, unlinkCard}
+use Rattle.moving.specs.Move.{moveAnswer, moveCard}
+use Rattle.looking.specs.Look.{findAnswer, entryAnswer, noEntry, entryBytes}
 use Rattle.walk.proofs.Agree.{agree}
-use Rattle.sfs.specs.Said.{saidNo, ifOpen, ofOpened, ofActed}
-use Rattle.sfs.specs.DirCalls.{Created, Linked, Unlinked, Moved, Found, Listed, Described, Formatted}
+use Rattle.said.specs.Said.{saidNo, ifOpen, ofOpened, ofActed}
+use Rattle.dir_calls.specs.DirCalls.{Created, Linked, Unlinked, Moved, Formatted}
+use Rattle.look_calls.specs.LookCalls.{Found, Listed, Described}
 use Rattle.sfs.specs.DirCallsC.{CreatedC, LinkedC, UnlinkedC, MovedC, FoundC, ListedC, DescribedC, FormattedC}
-use Rattle.sfs.specs.declared.said.Said.{Said}
-use Rattle.sfs.specs.declared.said.Said.the-variants.{Done}
+use Rattle.said.specs.declared.Said.{Said}
+use Rattle.said.specs.declared.Said.the-variants.{Done}
 use Rattle.sfs.proofs.Agree.{by-opening, Same, SameC, same, same-c, no-value}
 
 -- ---- the calls that change the image

@@ -1,5 +1,3 @@
 pub mod Check
-pub mod Said
-pub mod FileCalls
-pub mod DirCalls
+pub mod FileCallsC
 pub mod DirCallsC

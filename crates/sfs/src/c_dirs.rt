@@ -1,8 +1,8 @@
 // The calls that change directories as C calls them (include/sfs.h): the answer's number, and its value behind a pointer.
 ghost use Rattle.sfs.specs.DirCallsC.{CreatedC, LinkedC, UnlinkedC, MovedC, FormattedC};
-use crate::dir_calls;
-use crate::said;
+use dir_calls;
 use layout::INodeId;
+use said;
 
 #[no_mangle]
 pub extern "C" fn sfs_format(image: &mut [u8], space: u64) -> u32

@@ -1,8 +1,8 @@
 // read, write and resize as C calls them (include/sfs.h): the answer's number, and its value behind a pointer.
-ghost use Rattle.sfs.specs.FileCalls.{ReadC, WrittenC, SizedC};
-use crate::file_calls;
-use crate::said;
+ghost use Rattle.sfs.specs.FileCallsC.{ReadC, WrittenC, SizedC};
+use file_calls;
 use layout::INodeId;
+use said;
 
 #[no_mangle]
 pub extern "C" fn sfs_read(

@@ -3,10 +3,10 @@ ghost use mathlib.Core.Path.{_≡_};
 ghost use lib.ListN.{length};
 ghost use Rattle.layout.specs.Entry.{nameIn};
 ghost use Rattle.sfs.specs.DirCallsC.{FoundC, ListedC, DescribedC};
-use crate::look_calls;
-use crate::said;
 use layout::INodeId;
 use layout::entry;
+use look_calls;
+use said;
 
 #[no_mangle]
 pub extern "C" fn sfs_metadata(

@@ -7,10 +7,6 @@ use walk::Opened;
 pub mod c_dirs;
 pub mod c_files;
 pub mod c_looks;
-pub mod dir_calls;
-pub mod file_calls;
-pub mod look_calls;
-pub mod said;
 
 // 01's number of an answer.
 pub fn status_of(r: Opened) -> u32

@@ -22,10 +22,10 @@ use Rattle.walk.specs.Opening.{Opening, whole, no-inode, damaged, scratch-short
 use Rattle.files.specs.Requests.{longest, filedNo, writeAnswer, writeCard, readAnswer, resizeAnswer, resizeCard}
 use Rattle.files.specs.declared.Filed.{Filed}
 use Rattle.files.specs.declared.Filed.the-variants as F
-use Rattle.sfs.specs.Said.{saidNo, ifOpen, ofOpened, ofFiled}
-use Rattle.sfs.specs.FileCalls.{Sized}
-use Rattle.sfs.specs.declared.said.Said.{Said}
-use Rattle.sfs.proofs.Opened.{ready}
+use Rattle.said.specs.Said.{saidNo, ifOpen, ofOpened, ofFiled}
+use Rattle.file_calls.specs.FileCalls.{Sized}
+use Rattle.said.specs.declared.Said.{Said}
+use Rattle.said.proofs.Opened.{ready}
 use Rattle.theory.specs.Days.{Request, reading, writing, resizing, named, answered, after, OfBytes, written, Returned}
 use Rattle.theory.specs.Calls.{Called, read, write, resize, Call, put, lastPut, Calls, none, next}
 use Rattle.theory.proofs.Steps.{Step, step-none}

@@ -17,7 +17,7 @@ use Rattle.card.specs.Whole.{Reached, root, down, Whole}
 use Rattle.card.proofs.Views.{kids-dir}
 use Rattle.card.proofs.Owners.{inode-below}
 use Rattle.card.proofs.Tree.{reached-listed, unnamed-root}
-use Rattle.acts.specs.Move.{climbs}
+use Rattle.moving.specs.Move.{climbs}
 use Rattle.theory.proofs.TreeMove.{Above, top, next}
 
 -- ---- one step of the test

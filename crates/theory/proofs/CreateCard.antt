@@ -27,10 +27,10 @@ use Rattle.card.proofs.Views.{owned-few}
 use Rattle.card.proofs.Frames.{SameFile, size-is, kind-is, links-is, count-is, data-is, owns-is, entry-is, dir-is}
 use Rattle.card.proofs.Kept.{slots-few}
 use Rattle.card.proofs.Isolation.{data-refl}
-use Rattle.blocks.proofs.Taken.{nthFree}
+use Rattle.growing.proofs.Taken.{nthFree}
 use Rattle.entries.specs.Entries.{whereIs, appended}
 use Rattle.acts.specs.Answers.{actedNo, actedValue}
-use Rattle.acts.specs.Create.{fileKind, freshInode, createTakes, createAnswer, bareDir, emptyDir, madeFile, madeDir, made, createCard}
+use Rattle.creating.specs.Create.{fileKind, freshInode, createTakes, createAnswer, bareDir, emptyDir, madeFile, madeDir, made, createCard}
 use Rattle.acts.specs.declared.Acted.the-variants.{Done}
 use Rattle.theory.proofs.Requests.{of-kind}
 use Rattle.theory.proofs.Resized.{held-is, in-use-is}

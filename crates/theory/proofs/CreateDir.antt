@@ -20,12 +20,12 @@ use Rattle.card.specs.Places.{at-data}
 use Rattle.card.proofs.Views.{owned-few}
 use Rattle.card.proofs.Frames.{data-is}
 use Rattle.card.proofs.Isolation.{data-slots}
-use Rattle.blocks.proofs.Taken.{nthFree}
+use Rattle.growing.proofs.Taken.{nthFree}
 use Rattle.files.specs.Resizing.{resized}
 use Rattle.entries.specs.Entries.{entryPut}
 use Rattle.entries.specs.Names.{dot, dots, noNul}
 use Rattle.entries.proofs.Given.{storable-name}
-use Rattle.acts.specs.Create.{bareDir}
+use Rattle.creating.specs.Create.{bareDir}
 use Rattle.theory.proofs.Plan.{planned}
 use Rattle.theory.proofs.Placed.{Placed, grow-placed}
 use Rattle.theory.proofs.Edits.{Edited, edited-trans, edited-sound}

@@ -20,7 +20,7 @@ use Rattle.card.specs.View.{entries, name}
 use Rattle.card.specs.Whole.{Sound}
 use Rattle.files.specs.Requests.{recordWith}
 use Rattle.acts.specs.Answers.{actedNo, ifDone, fullLinks}
-use Rattle.acts.specs.Create.{knownKind, freshInode, createTakes, createRoom, createAnswer, made, createCard}
+use Rattle.creating.specs.Create.{knownKind, freshInode, createTakes, createRoom, createAnswer, made, createCard}
 use Rattle.acts.specs.declared.Acted.{Acted}
 use Rattle.acts.specs.declared.Acted.the-variants.{Done, NotDir, BadName, EntryExist, InvalidParam, TooManyLinks, NoDeviceSpace}
 use Rattle.theory.proofs.NameTests.{CanName, NameTests, not-dir, bad-name, exists, can, nameTests, name-tests, name-exact}

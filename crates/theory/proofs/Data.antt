@@ -16,7 +16,7 @@ use Rattle.freemap.specs.Bits.{freeBits}
 use Rattle.card.specs.Places.{Place, at-indirect, at-double, at-second, at-data}
 use Rattle.card.proofs.Views.{seconds-some, seconds-many}
 use Rattle.blocks.specs.Bytes.{within}
-use Rattle.blocks.specs.Steps.{Sizes}
+use Rattle.blocks.specs.Shape.{Sizes}
 use Rattle.blocks.specs.Taking.{Cursor, Growing, growDirect, growSingle, growPart, partsFrom, partsTo, growTwofold}
 use Rattle.blocks.proofs.Growth.{
   growRun-none,
@@ -29,8 +29,8 @@ use Rattle.blocks.proofs.Growth.{
   inode-growSingle,
   inode-growTwofold,
 }
-use Rattle.blocks.proofs.Taken.{nthFree, TookLowest}
-use Rattle.blocks.proofs.Runs.{RanDirect, direct-ran}
+use Rattle.growing.proofs.Taken.{nthFree, TookLowest}
+use Rattle.growing.proofs.Runs.{RanDirect, direct-ran}
 use Rattle.theory.proofs.Tables.{tableOf, had-table, Seats, Listed, seconds-low, word-kept, fills}
 
 -- ---- where the parts begin and end

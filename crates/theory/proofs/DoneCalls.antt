@@ -15,19 +15,19 @@ use Rattle.walk.specs.declared.Opened.{Opened}
 use Rattle.walk.specs.declared.Opened.the-variants.{Open, ScratchShort, WrongFs, Damaged, NoInode}
 use Rattle.walk.specs.Opening.{Opening}
 use Rattle.entries.specs.Entries.{whereIs}
-use Rattle.acts.specs.Answers.{actedNo, actedValue}
-use Rattle.acts.specs.Create.{createAnswer, createCard}
-use Rattle.acts.specs.Link.{linkAnswer, linkCard}
-use Rattle.acts.specs.Unlink.{namedBy, unlinkAnswer, unlinkCard}
-use Rattle.acts.specs.Move.{moveAnswer, moveCard}
-use Rattle.acts.specs.Format.{formatAnswer}
+use Rattle.acts.specs.Answers.{actedNo, actedValue, namedBy}
+use Rattle.creating.specs.Create.{createAnswer, createCard}
+use Rattle.linking.specs.Link.{linkAnswer, linkCard}
+use Rattle.unlinking.specs.Unlink.{unlinkAnswer, unlinkCard}
+use Rattle.moving.specs.Move.{moveAnswer, moveCard}
+use Rattle.formatting.specs.Format.{formatAnswer}
 use Rattle.acts.specs.declared.Acted.{Acted}
 use Rattle.acts.specs.declared.Acted.the-variants.{Done}
-use Rattle.acts.proofs.UnlinkLaws.{done-is}
-use Rattle.sfs.specs.Said.{saidNo, saidValue, ifOpen, ofOpened, ofActed}
-use Rattle.sfs.specs.DirCalls.{Created, Linked, Unlinked, Moved, Formatted}
-use Rattle.sfs.specs.declared.said.Said.{Said}
-use Rattle.sfs.proofs.Opened.{ready}
+use Rattle.acts.proofs.Refused.{done-is}
+use Rattle.said.specs.Said.{saidNo, saidValue, ifOpen, ofOpened, ofActed}
+use Rattle.dir_calls.specs.DirCalls.{Created, Linked, Unlinked, Moved, Formatted}
+use Rattle.said.specs.declared.Said.{Said}
+use Rattle.said.proofs.Opened.{ready}
 use Rattle.theory.specs.Frame.{Frame}
 use Rattle.theory.proofs.FreshCard.{format-fits, format-card, format-whole, fresh-bytes}
 use Rattle.theory.proofs.CreateTests.{create-tests, create-can}

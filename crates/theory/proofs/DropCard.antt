@@ -28,9 +28,9 @@ use Rattle.card.proofs.Frames.{SameBlock, SameFile, block-from, file-held}
 use Rattle.card.proofs.Kept.{Steady}
 use Rattle.card.proofs.Isolation.{Within, Dropped, others-same, sound-drop}
 use Rattle.blocks.specs.Taking.{freeSingle, freeTwofold, freeIndirect, freeLevel, freeDouble, shrunk}
-use Rattle.blocks.proofs.Runs.{Clear}
+use Rattle.growing.proofs.Runs.{Clear}
 use Rattle.files.specs.Resizing.{fileBlocks}
-use Rattle.acts.specs.Unlink.{dropped}
+use Rattle.unlinking.specs.Unlink.{dropped}
 use Rattle.theory.proofs.Freed.{Freed, freed-is, num-kept, freed-one}
 use Rattle.theory.proofs.Losses.{isData, isSecond, lost, owns-lost}
 use Rattle.theory.proofs.Tables.{block-clear, clear-in}

@@ -26,8 +26,8 @@ use Rattle.card.proofs.Isolation.{WithinData, data-slots}
 use Rattle.names.proofs.Entries.{number-loaded, name-loaded}
 use Rattle.blocks.specs.Bytes.{readInto, filled}
 use Rattle.blocks.proofs.Lengths.{length-readInto, length-filled}
-use Rattle.blocks.proofs.ReadBytes.{read-here}
-use Rattle.blocks.proofs.Sound.{sound-readable}
+use Rattle.reading.proofs.ReadBytes.{read-here}
+use Rattle.filling.proofs.Sound.{sound-readable}
 use Rattle.entries.specs.Entries.{entryAt, entryPut}
 use Rattle.theory.proofs.Filling.{bytes-filled, filled-within, filled-sound, filled-comes, filled-stays}
 use Rattle.theory.proofs.Edits.{Edited, data-edited}

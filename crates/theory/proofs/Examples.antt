@@ -17,11 +17,11 @@ use Rattle.card.specs.View.{dataAt, name}
 use Rattle.card.proofs.Views.{owned-few, owned-least}
 use Rattle.entries.specs.Entries.{eqs}
 use Rattle.entries.specs.Names.{dot, dots}
-use Rattle.acts.specs.Create.{createAnswer, createCard}
-use Rattle.acts.specs.Unlink.{unlinkAnswer, unlinkCard}
+use Rattle.creating.specs.Create.{createAnswer, createCard}
+use Rattle.unlinking.specs.Unlink.{unlinkAnswer, unlinkCard}
 use Rattle.acts.specs.declared.Acted.the-variants.{Done, BadName, IsDir}
 use Rattle.acts.specs.Answers.{actedNo}
-use Rattle.blocks.proofs.Taken.{nthFree}
+use Rattle.growing.proofs.Taken.{nthFree}
 use Rattle.theory.specs.Examples.{fresh, created, withA, sizedA, Examples}
 use Rattle.theory.proofs.Requests.{of-kind}
 use Rattle.theory.proofs.FreshBytes.{bytes-tested, name-tested}

@@ -28,13 +28,13 @@ use Rattle.card.proofs.Isolation.{sound-one}
 use Rattle.card.proofs.Bare.{one}
 use Rattle.blocks.specs.Bytes.{readInto}
 use Rattle.blocks.proofs.Lengths.{length-readInto}
-use Rattle.blocks.proofs.ReadBytes.{read-rest}
-use Rattle.blocks.proofs.Sound.{sound-readable}
-use Rattle.blocks.proofs.Taken.{nthFree}
+use Rattle.reading.proofs.ReadBytes.{read-rest}
+use Rattle.filling.proofs.Sound.{sound-readable}
+use Rattle.growing.proofs.Taken.{nthFree}
 use Rattle.files.specs.Resizing.{resized}
 use Rattle.files.specs.Requests.{longest, needs, resizeAnswer, resizeCard, readAnswer, readBuffer}
 use Rattle.files.specs.declared.Filed.the-variants.{Done, InvalidParam, NoDeviceSpace}
-use Rattle.acts.specs.Create.{createCard}
+use Rattle.creating.specs.Create.{createCard}
 use Rattle.theory.proofs.Plan.{turnOf, planned, more}
 use Rattle.theory.proofs.Resized.{Resized}
 use Rattle.theory.proofs.Placed.{Placed, grow-placed}

@@ -26,8 +26,8 @@ use Rattle.card.proofs.Small.{owns-one}
 use Rattle.card.proofs.Bare.{one}
 use Rattle.entries.specs.Names.{dot, dots}
 use Rattle.files.specs.Requests.{needs}
-use Rattle.acts.specs.Format.{formatted, formatCard}
-use Rattle.acts.specs.Create.{createTakes, createAnswer, createCard}
+use Rattle.formatting.specs.Format.{formatted, formatCard}
+use Rattle.creating.specs.Create.{createTakes, createAnswer, createCard}
 use Rattle.acts.specs.declared.Acted.the-variants.{Done}
 use Rattle.theory.proofs.FreeFrom.{FreeFrom, lowest-from}
 use Rattle.theory.proofs.FreshCard.{Fresh, Fits, fresh-views, fresh-bytes, fresh-card, format-card}

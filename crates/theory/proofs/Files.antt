@@ -28,8 +28,8 @@ use Rattle.freemap.proofs.Map.{bit-below}
 use Rattle.blocks.specs.Bytes.{readInto}
 use Rattle.blocks.proofs.Lengths.{length-readInto}
 use Rattle.blocks.proofs.Walk.{Readable}
-use Rattle.blocks.proofs.ReadBytes.{read-here, read-rest}
-use Rattle.blocks.proofs.Sound.{sound-readable}
+use Rattle.reading.proofs.ReadBytes.{read-here, read-rest}
+use Rattle.filling.proofs.Sound.{sound-readable}
 use Rattle.card.proofs.Isolation.{Balanced}
 use Rattle.files.specs.Requests.{longest, needs, filedNo, judged, resizeAnswer, writeAnswer, writeCard, readAnswer, readBuffer}
 use Rattle.files.specs.declared.Filed.the-variants.{Done}

@@ -18,9 +18,9 @@ use Rattle.card.proofs.Isolation.{WithinData, sound-data-write}
 use Rattle.blocks.specs.Bytes.{put, pieceFill, runFill, directFill, indirectFill, levelFill, doubleFill, filled}
 use Rattle.blocks.proofs.Lengths.{length-filled}
 use Rattle.blocks.proofs.Walk.{Readable}
-use Rattle.blocks.proofs.FillBytes.{Separate, comes, filled-other}
-use Rattle.blocks.proofs.FileBytes.{file-here, file-rest}
-use Rattle.blocks.proofs.Sound.{sound-readable, sound-separate}
+use Rattle.filling.proofs.FillBytes.{Separate, comes, filled-other}
+use Rattle.filling.proofs.FileBytes.{file-here, file-rest}
+use Rattle.filling.proofs.Sound.{sound-readable, sound-separate}
 
 -- ---- what each piece keeps, filling keeps: on any bytes
 

@@ -14,7 +14,7 @@ use Rattle.card.specs.Whole.{Reached, root, down, Sound, Tree, Whole}
 use Rattle.card.proofs.Tree.{named-some, reached-listed}
 use Rattle.card.proofs.Kept.{slots-few}
 use Rattle.card.proofs.Frames.{SameFile, size-is, kind-is, count-is, fileByte-is, file-refl, inode-room}
-use Rattle.acts.specs.Unlink.{namedBy}
+use Rattle.acts.specs.Answers.{namedBy}
 use Rattle.theory.specs.Days.{Request, named}
 use Rattle.theory.specs.Frame.{Listing, same, more, less, SameData, Frame}
 use Rattle.theory.proofs.Resized.{held-is, in-use-is}

@@ -14,7 +14,7 @@ use Rattle.freemap.specs.Free.{lowest}
 use Rattle.freemap.proofs.Bits.{bitOf}
 use Rattle.freemap.proofs.Map.{bit-at}
 use Rattle.card.proofs.Small.{eachBelow, each-below}
-use Rattle.blocks.proofs.Taken.{nthFree, nth-of}
+use Rattle.growing.proofs.Taken.{nthFree, nth-of}
 use Rattle.theory.proofs.Return.{bits-same}
 
 -- of the first nb blocks those below m are in use, those from m on are free

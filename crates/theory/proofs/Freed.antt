@@ -18,10 +18,10 @@ use Rattle.freemap.specs.Bits.{mapByte, mapBit, freeBits}
 use Rattle.freemap.specs.Free.{freed}
 use Rattle.freemap.proofs.Map.{bit-below}
 use Rattle.freemap.proofs.Laws.{length-freed, bytes-freed, byte-freed-off, bit-freed-same, bit-freed-other, unused-freed, free-freed}
-use Rattle.blocks.specs.Steps.{Sizes}
+use Rattle.blocks.specs.Shape.{Sizes}
 use Rattle.blocks.specs.Taking.{freedIn, freeRun}
-use Rattle.blocks.proofs.Freeing.{freedIn-in, freeRun-none, freeRun-more}
-use Rattle.blocks.proofs.Runs.{Clear}
+use Rattle.shrinking.proofs.Freeing.{freedIn-in, freeRun-none, freeRun-more}
+use Rattle.growing.proofs.Runs.{Clear}
 
 -- cur is img with blocks below nb freed: block x `gone x` times
 pub record Freed (nb : ℕ) (img : List ℕ) (gone : ℕ → ℕ) (cur : List ℕ) : Type 0 where

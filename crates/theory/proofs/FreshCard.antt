@@ -23,7 +23,7 @@ use Rattle.card.specs.View.{uses}
 use Rattle.card.specs.Whole.{Inode, Sound, Whole}
 use Rattle.card.proofs.Bare.{Bare, one, listed-one, bare-inode, bare-tree, bare-uses}
 use Rattle.acts.specs.Answers.{actedNo}
-use Rattle.acts.specs.Format.{formatAnswer, infoText, freshMap, formatted, formatCard}
+use Rattle.formatting.specs.Format.{formatAnswer, infoText, freshMap, formatted, formatCard}
 use Rattle.acts.specs.declared.Acted.the-variants.{Done, InvalidParam}
 use Rattle.theory.proofs.FreshBytes.{
   bytes-tested,

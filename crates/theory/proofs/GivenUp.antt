@@ -24,10 +24,10 @@ use Rattle.card.proofs.Owners.{owns-uses, held-below, not-zero, not-map}
 use Rattle.card.proofs.Counting.{count-below}
 use Rattle.card.proofs.Frames.{seconds-fit}
 use Rattle.blocks.specs.Bytes.{within}
-use Rattle.blocks.specs.Steps.{Sizes}
+use Rattle.blocks.specs.Shape.{Sizes}
 use Rattle.blocks.specs.Taking.{partFrom, partTo, partsFrom, partsTo, freeRun, freeDirect, freeSingle, freeTwofold, freeIndirect, freeLevel, freeDouble, shrunk}
-use Rattle.blocks.proofs.Freeing.{twofoldFree, freeSingle-in, freeTwofold-in, freeLevel-in, freePart-in}
-use Rattle.blocks.proofs.Runs.{Clear}
+use Rattle.shrinking.proofs.Freeing.{twofoldFree, freeSingle-in, freeTwofold-in, freeLevel-in, freePart-in}
+use Rattle.growing.proofs.Runs.{Clear}
 use Rattle.theory.proofs.Tables.{block-clear, clear-in}
 use Rattle.theory.proofs.Freed.{Freed, Listed, Once, span, span-sum, span-most, span-join, freed-none, freed-is, num-kept, freed-run, freed-gap}
 use Rattle.theory.proofs.Losses.{

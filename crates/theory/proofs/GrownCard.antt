@@ -27,8 +27,8 @@ use Rattle.card.proofs.Frames.{SameBlock}
 use Rattle.card.proofs.Kept.{Steady}
 use Rattle.card.proofs.Isolation.{Within}
 use Rattle.blocks.proofs.Picks.{gap-past, gap-short, gap-over}
-use Rattle.blocks.proofs.Taken.{nthFree, nth-free, nth-below}
-use Rattle.blocks.proofs.Runs.{Clear}
+use Rattle.growing.proofs.Taken.{nthFree, nth-free, nth-below}
+use Rattle.growing.proofs.Runs.{Clear}
 use Rattle.theory.proofs.Change.{Changed}
 use Rattle.theory.proofs.Plan.{Had, in-use-had, newOne, newTwo, turnOf, planned, more, Planning, Grown}
 use Rattle.theory.proofs.PlanLaws.{used-dec, nth-same, turns-all, planning}

@@ -36,10 +36,10 @@ use Rattle.card.specs.Whole.{Sound}
 use Rattle.card.specs.Places.{Place, at-indirect, at-double, at-second, at-data}
 use Rattle.card.proofs.Cells.{rank}
 use Rattle.card.proofs.Views.{data-direct, data-indirect, data-double, seconds-mono, seconds-reach, owned-parts, none-below, some-from}
-use Rattle.blocks.specs.Steps.{Sizes}
+use Rattle.blocks.specs.Shape.{Sizes}
 use Rattle.blocks.specs.Taking.{Growing, growIndirect, growDouble, growLevel, growDirect, growSingle, growTwofold, grown}
 use Rattle.blocks.proofs.Picks.{gap-past, gap-short, gap-over}
-use Rattle.blocks.proofs.Taken.{nthFree, nth-below, TookLowest}
+use Rattle.growing.proofs.Taken.{nthFree, nth-below, TookLowest}
 use Rattle.files.specs.Resizing.{ofLength, lengthened}
 use Rattle.theory.proofs.Plan.{Had, planned, more, Planning, Grown}
 use Rattle.theory.proofs.Pointed.{pointers, Pointed}

@@ -25,7 +25,7 @@ use Rattle.card.proofs.Isolation.{others-same}
 use Rattle.files.specs.Requests.{needs}
 use Rattle.entries.specs.Entries.{whereIs, appended}
 use Rattle.acts.specs.Answers.{actedNo}
-use Rattle.acts.specs.Link.{linkAnswer, linked, linkCard}
+use Rattle.linking.specs.Link.{linkAnswer, linked, linkCard}
 use Rattle.acts.specs.declared.Acted.the-variants.{Done}
 use Rattle.theory.proofs.Resized.{held-is, in-use-is}
 use Rattle.theory.proofs.Requests.{OfKind, of-kind, kinds}

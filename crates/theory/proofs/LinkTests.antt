@@ -17,7 +17,7 @@ use Rattle.card.specs.View.{entries, name}
 use Rattle.card.specs.Whole.{Sound}
 use Rattle.files.specs.Requests.{needs, recordWith}
 use Rattle.acts.specs.Answers.{actedNo, ifDone, ofHead, fullLinks}
-use Rattle.acts.specs.Link.{linkRoom, linkAnswer, linked, linkCard}
+use Rattle.linking.specs.Link.{linkRoom, linkAnswer, linked, linkCard}
 use Rattle.acts.specs.declared.Acted.{Acted}
 use Rattle.acts.specs.declared.Acted.the-variants.{Done, NotDir, IsDir, BadName, EntryExist, TooManyLinks, NoDeviceSpace}
 use Rattle.theory.proofs.Requests.{OfKind, of-kind, kinds, Filelike, filelike, filelike-not}

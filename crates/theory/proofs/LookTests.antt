@@ -13,8 +13,8 @@ use Rattle.card.specs.View.{entries, entry, name}
 use Rattle.card.specs.Whole.{Reached, Whole}
 use Rattle.entries.specs.Entries.{whereIs}
 use Rattle.entries.proofs.Lookup.{where-range, where-hit, where-below, where-not, where-only}
-use Rattle.acts.specs.Unlink.{namedBy}
-use Rattle.acts.specs.Look.{findAnswer, entryAnswer}
+use Rattle.acts.specs.Answers.{namedBy}
+use Rattle.looking.specs.Look.{findAnswer, entryAnswer}
 use Rattle.acts.specs.declared.Acted.{Acted}
 use Rattle.acts.specs.declared.Acted.the-variants.{Done, NotDir, EntryNotFound}
 use Rattle.theory.proofs.Tests.{whole-inode, DirTest, other, dir, dirTest, dir-test, dir-exact, met, unmet}

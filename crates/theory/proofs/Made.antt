@@ -11,8 +11,8 @@ use Rattle.layout.specs.Inode.{kind}
 use Rattle.card.specs.Whole.{Reached, Sound, Tree, Whole}
 use Rattle.card.proofs.Tree.{reached-listed}
 use Rattle.card.proofs.Frames.{SameFile}
-use Rattle.sfs.specs.Said.{saidNo}
-use Rattle.sfs.specs.declared.said.Said.{Said}
+use Rattle.said.specs.Said.{saidNo}
+use Rattle.said.specs.declared.Said.{Said}
 use Rattle.theory.specs.Days.{Request, named, OfBytes}
 use Rattle.theory.specs.Calls.{Called, read, write, resize}
 use Rattle.theory.specs.Frame.{SameData, Frame}

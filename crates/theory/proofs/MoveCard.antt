@@ -22,8 +22,8 @@ use Rattle.card.proofs.Frames.{SameSlots, SameFile, size-is, links-is, file-tra
 use Rattle.card.proofs.Isolation.{data-slots, others-same}
 use Rattle.entries.specs.Entries.{whereIs, entryPut}
 use Rattle.entries.proofs.Lookup.{where-hit, where-none, where-not}
-use Rattle.acts.specs.Unlink.{namedBy}
-use Rattle.acts.specs.Move.{upPut, moveAnswer, moveCard}
+use Rattle.acts.specs.Answers.{namedBy}
+use Rattle.moving.specs.Move.{upPut, moveAnswer, moveCard}
 use Rattle.acts.specs.declared.Acted.the-variants.{Done}
 use Rattle.theory.proofs.Edits.{steady-trans}
 use Rattle.theory.proofs.Entry.{EntryPut, entry-put, entryOf-length, entryOf-bytes}

@@ -21,7 +21,7 @@ use Rattle.card.proofs.Frames.{SameFile, size-is, kind-is, links-is, file-trans
 use Rattle.card.proofs.Isolation.{others-same}
 use Rattle.files.specs.Requests.{needs}
 use Rattle.entries.specs.Entries.{appended, removed}
-use Rattle.acts.specs.Move.{movedFile}
+use Rattle.moving.specs.Move.{movedFile}
 use Rattle.theory.proofs.Edits.{steady-trans, edited-sound}
 use Rattle.theory.proofs.Entry.{entryOf-length, entryOf-bytes}
 use Rattle.theory.proofs.Append.{Appended, append-entry}

@@ -22,7 +22,7 @@ use Rattle.card.proofs.Frames.{SameSlots, SameFile, size-is, kind-is, links-is,
 use Rattle.card.proofs.Isolation.{WithinData, data-slots, data-others}
 use Rattle.blocks.specs.Bytes.{filled}
 use Rattle.blocks.proofs.Lengths.{length-filled}
-use Rattle.acts.specs.Move.{upPut}
+use Rattle.moving.specs.Move.{upPut}
 use Rattle.theory.proofs.Filling.{bytes-filled, filled-within, filled-sound, filled-comes, filled-stays}
 use Rattle.theory.proofs.Edits.{Edited, data-edited}
 use Rattle.theory.proofs.Resized.{held-is}

@@ -16,9 +16,8 @@ use Rattle.card.specs.View.{entries, entry, kids, kid}
 use Rattle.card.specs.Whole.{Reached, Whole}
 use Rattle.card.proofs.Views.{kids-of-dir}
 use Rattle.entries.specs.Entries.{whereIs, entryPut}
-use Rattle.acts.specs.Answers.{actedNo, isDir}
-use Rattle.acts.specs.Unlink.{namedBy}
-use Rattle.acts.specs.Move.{moveAnswer, upPut, movedFile, movedDir, moved, moveCard}
+use Rattle.acts.specs.Answers.{actedNo, isDir, namedBy}
+use Rattle.moving.specs.Move.{moveAnswer, upPut, movedFile, movedDir, moved, moveCard}
 use Rattle.acts.specs.declared.Acted.the-variants.{Done}
 use Rattle.theory.proofs.Requests.{OfKind, of-kind, kinds, Filelike, filelike}
 use Rattle.theory.proofs.Tests.{whole-inode, not-done, head-same}

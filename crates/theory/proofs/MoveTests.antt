@@ -21,9 +21,8 @@ use Rattle.files.specs.Requests.{needs}
 use Rattle.entries.specs.Entries.{whereIs}
 use Rattle.entries.specs.Names.{isDots}
 use Rattle.entries.proofs.Lookup.{where-range, where-hit, where-not}
-use Rattle.acts.specs.Answers.{actedNo, ofHead, fullLinks}
-use Rattle.acts.specs.Unlink.{namedBy}
-use Rattle.acts.specs.Move.{climbs, moveRoom, moveAnswer}
+use Rattle.acts.specs.Answers.{actedNo, ofHead, fullLinks, namedBy}
+use Rattle.moving.specs.Move.{climbs, moveRoom, moveAnswer}
 use Rattle.acts.specs.declared.Acted.{Acted}
 use Rattle.acts.specs.declared.Acted.the-variants.{Done, NotDir, IsDir, BadName, EntryExist, EntryNotFound, InvalidParam, TooManyLinks, NoDeviceSpace}
 use Rattle.theory.proofs.Requests.{OfKind, of-kind, kinds}

@@ -59,7 +59,7 @@ use Rattle.card.proofs.Kept.{Steady, bit-of}
 use Rattle.card.proofs.Isolation.{Among, Added, listed-same, sound-add}
 use Rattle.blocks.specs.Taking.{nextFree}
 use Rattle.blocks.proofs.Growth.{nextFree-some}
-use Rattle.blocks.proofs.Taken.{nthFree}
+use Rattle.growing.proofs.Taken.{nthFree}
 
 -- an inode with no blocks owns its own
 pub owns-none : (img : List ℕ) (n b : ℕ) → count img n ≡ 0 → owns img n b ≡ δ n b

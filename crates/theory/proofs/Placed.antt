@@ -20,7 +20,7 @@ use Rattle.card.specs.Whole.{Sound}
 use Rattle.card.specs.Places.{Place, held}
 use Rattle.card.proofs.Kept.{slots-few, bit-of}
 use Rattle.card.proofs.Isolation.{WithinData, sound-one, data-slots, data-map}
-use Rattle.blocks.proofs.Taken.{nthFree, nth-below}
+use Rattle.growing.proofs.Taken.{nthFree, nth-below}
 use Rattle.files.specs.Resizing.{lengthened, cleaned, resized}
 use Rattle.files.proofs.Changes.{longer-is}
 use Rattle.files.specs.Requests.{longest, needs}

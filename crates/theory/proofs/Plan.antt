@@ -16,8 +16,8 @@ use Rattle.card.specs.View.{second, dataAt}
 use Rattle.card.specs.Places.{Place, at-inode, at-indirect, at-double, at-second, at-data, held, InUse}
 use Rattle.card.proofs.Cells.{rank}
 use Rattle.card.proofs.Frames.{SameBlock}
-use Rattle.blocks.proofs.Taken.{nthFree}
-use Rattle.blocks.proofs.Runs.{Clear}
+use Rattle.growing.proofs.Taken.{nthFree}
+use Rattle.growing.proofs.Runs.{Clear}
 
 -- the places that a file of c blocks uses
 abbrev pub Had : ℕ → Place → Type 0

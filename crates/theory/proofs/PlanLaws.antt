@@ -22,8 +22,8 @@ use Rattle.card.proofs.Owners.{held-below, owned-taken, places-differ, not-zero
 use Rattle.card.proofs.Counting.{set-and-owned}
 use Rattle.card.proofs.Kept.{bit-of}
 use Rattle.blocks.proofs.Picks.{pick-yes, pick-no, gap-past, gap-short, gap-over}
-use Rattle.blocks.proofs.Taken.{nthFree, nth-free, nth-below}
-use Rattle.blocks.proofs.Runs.{Clear}
+use Rattle.growing.proofs.Taken.{nthFree, nth-free, nth-below}
+use Rattle.growing.proofs.Runs.{Clear}
 use Rattle.theory.proofs.Plan.{Had, had-in-use, in-use-had, newOne, newTwo, turnOf, planned, more, Planning}
 
 -- ---- places

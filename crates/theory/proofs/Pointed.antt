@@ -22,11 +22,11 @@ use Rattle.card.specs.View.{second}
 use Rattle.card.specs.Places.{at-indirect, at-double, at-second}
 use Rattle.card.proofs.Views.{seconds-none, seconds-some, seconds-many, seconds-mono, owned-parts, none-below, some-from}
 use Rattle.blocks.specs.Taking.{Growing, nextOf, tookNext, moved, growIndirect, growDouble, growLevel}
-use Rattle.blocks.specs.Steps.{Sizes}
+use Rattle.blocks.specs.Shape.{Sizes}
 use Rattle.blocks.proofs.Picks.{pick-no, pick-both, gap-past, gap-short, gap-over}
 use Rattle.blocks.proofs.Growth.{growRun-none, levelRun, growLevel-in, inode-growLevel}
-use Rattle.blocks.proofs.Taken.{nthFree, nth-below, TookLowest, took-none, took-next, next-is, byte-tookNext}
-use Rattle.blocks.proofs.Runs.{Clear, Ran, ran}
+use Rattle.growing.proofs.Taken.{nthFree, nth-below, TookLowest, took-none, took-next, next-is, byte-tookNext}
+use Rattle.growing.proofs.Runs.{Clear, Ran, ran}
 use Rattle.theory.proofs.Plan.{newOne, newTwo, planned, Planning}
 
 -- how many pointer blocks that is

@@ -31,18 +31,19 @@ use Rattle.files.specs.Requests.{
 use Rattle.files.specs.declared.Filed.{Filed}
 use Rattle.files.specs.declared.Filed.the-variants as F
 use Rattle.acts.specs.Answers.{actedNo, actedValue}
-use Rattle.acts.specs.Create.{createAnswer}
-use Rattle.acts.specs.Link.{linkAnswer}
-use Rattle.acts.specs.Unlink.{unlinkAnswer}
-use Rattle.acts.specs.Move.{moveAnswer}
-use Rattle.acts.specs.Look.{entryAnswer, entryBytes, noEntry}
-use Rattle.acts.specs.Format.{formatAnswer, formatCard}
+use Rattle.creating.specs.Create.{createAnswer}
+use Rattle.linking.specs.Link.{linkAnswer}
+use Rattle.unlinking.specs.Unlink.{unlinkAnswer}
+use Rattle.moving.specs.Move.{moveAnswer}
+use Rattle.looking.specs.Look.{entryAnswer, entryBytes, noEntry}
+use Rattle.formatting.specs.Format.{formatAnswer, formatCard}
 use Rattle.acts.specs.declared.Acted.{Acted}
 use Rattle.acts.specs.declared.Acted.the-variants as A
-use Rattle.sfs.specs.Said.{saidNo, saidValue, ifOpen, ofOpened, ofFiled, ofActed}
-use Rattle.sfs.specs.FileCalls.{Read}
-use Rattle.sfs.specs.DirCalls.{Listed, Formatted}
-use Rattle.sfs.specs.declared.said.Said.{Said}
+use Rattle.said.specs.Said.{saidNo, saidValue, ifOpen, ofOpened, ofFiled, ofActed}
+use Rattle.file_calls.specs.FileCalls.{Read}
+use Rattle.dir_calls.specs.DirCalls.{Formatted}
+use Rattle.look_calls.specs.LookCalls.{Listed}
+use Rattle.said.specs.declared.Said.{Said}
 use Rattle.theory.specs.Days.{Request}
 use Rattle.theory.specs.Calls.{Called, read, write, resize}
 use Rattle.theory.specs.Made.{Asked, Made, filed, create, link, unlink, move, find, list, describe}

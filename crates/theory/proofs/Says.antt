@@ -12,15 +12,16 @@ use Rattle.walk.specs.declared.Opened.the-variants.{Open}
 use Rattle.walk.specs.Opening.{countsAt, Opening}
 use Rattle.walk.proofs.Agree.{opened}
 use Rattle.acts.specs.Answers.{actedNo, actedValue}
-use Rattle.acts.specs.Create.{createAnswer}
-use Rattle.acts.specs.Link.{linkAnswer}
-use Rattle.acts.specs.Unlink.{unlinkAnswer}
-use Rattle.acts.specs.Move.{moveAnswer}
-use Rattle.acts.specs.Look.{findAnswer, entryAnswer}
+use Rattle.creating.specs.Create.{createAnswer}
+use Rattle.linking.specs.Link.{linkAnswer}
+use Rattle.unlinking.specs.Unlink.{unlinkAnswer}
+use Rattle.moving.specs.Move.{moveAnswer}
+use Rattle.looking.specs.Look.{findAnswer, entryAnswer}
 use Rattle.acts.specs.declared.Acted.{Acted}
-use Rattle.sfs.specs.Said.{saidNo, saidValue, ifOpen, ofOpened, ofActed}
-use Rattle.sfs.specs.DirCalls.{Created, Linked, Unlinked, Moved, Found, Listed}
-use Rattle.sfs.specs.declared.said.Said.{Said}
+use Rattle.said.specs.Said.{saidNo, saidValue, ifOpen, ofOpened, ofActed}
+use Rattle.dir_calls.specs.DirCalls.{Created, Linked, Unlinked, Moved}
+use Rattle.look_calls.specs.LookCalls.{Found, Listed}
+use Rattle.said.specs.declared.Said.{Said}
 use Rattle.theory.proofs.Refusals.{said-acted, value-acted}
 
 module _ {img s s′ : List ℕ} (w : Whole img) (enough : 4 * blocks img ≤ length s) where

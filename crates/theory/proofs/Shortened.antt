@@ -63,7 +63,7 @@ use Rattle.card.proofs.Frames.{SameBlock, block-from, block-slot, seconds-fit}
 use Rattle.card.proofs.Kept.{Steady, slots-few}
 use Rattle.card.proofs.Isolation.{Balanced}
 use Rattle.blocks.specs.Taking.{shrunk, lessIndirect, lessDouble}
-use Rattle.blocks.proofs.Runs.{Clear}
+use Rattle.growing.proofs.Runs.{Clear}
 use Rattle.files.specs.Resizing.{ofLength, shorter}
 use Rattle.files.proofs.Changes.{shorter-is}
 use Rattle.theory.proofs.Change.{Changed}

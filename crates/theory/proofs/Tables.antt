@@ -14,10 +14,10 @@ use Rattle.freemap.specs.Bits.{freeBits}
 use Rattle.card.specs.Places.{Place, at-inode, at-indirect, at-double, at-second, at-data}
 use Rattle.card.proofs.Cells.{rank}
 use Rattle.card.proofs.Views.{seconds-some, seconds-many, seconds-reach}
-use Rattle.blocks.specs.Steps.{Sizes}
+use Rattle.blocks.specs.Shape.{Sizes}
 use Rattle.blocks.specs.Taking.{Cursor, growRun}
-use Rattle.blocks.proofs.Taken.{nthFree, TookLowest}
-use Rattle.blocks.proofs.Runs.{Clear, Ran, ran}
+use Rattle.growing.proofs.Taken.{nthFree, TookLowest}
+use Rattle.growing.proofs.Runs.{Clear, Ran, ran}
 use Rattle.theory.proofs.Plan.{Had}
 
 -- ---- the pointer blocks that list data: the indirect one, and then the second level

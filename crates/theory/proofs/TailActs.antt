@@ -23,10 +23,10 @@ use Rattle.files.specs.Requests.{longest, recordWith, reaching}
 use Rattle.entries.specs.Entries.{entryAt, entryPut, appended, removed}
 use Rattle.entries.specs.Names.{dot, dots}
 use Rattle.acts.specs.Answers.{isDir}
-use Rattle.acts.specs.Create.{fileKind, freshInode, madeFile, bareDir, emptyDir, madeDir, made}
-use Rattle.acts.specs.Link.{linked}
-use Rattle.acts.specs.Unlink.{linksLeft, parentLess, dropped, unlinked}
-use Rattle.acts.specs.Move.{upPut, movedFile, movedDir, moved}
+use Rattle.creating.specs.Create.{fileKind, freshInode, madeFile, bareDir, emptyDir, madeDir, made}
+use Rattle.linking.specs.Link.{linked}
+use Rattle.unlinking.specs.Unlink.{linksLeft, parentLess, dropped, unlinked}
+use Rattle.moving.specs.Move.{upPut, movedFile, movedDir, moved}
 use Rattle.theory.proofs.TailSteps.{Tailed, below-keeps, Growable, tail-encoded, tail-taken, tail-freed, tail-shrunk, tail-filled, tail-grown}
 
 -- an inode record has twelve direct slots, as the card has it too

@@ -25,17 +25,17 @@ use Rattle.files.specs.Requests.{filedNo, longest, byFile, judged, onDone, reco
 use Rattle.files.specs.declared.Filed.{Filed}
 use Rattle.files.specs.declared.Filed.the-variants as F
 use Rattle.entries.specs.Entries.{whereIs}
-use Rattle.acts.specs.Answers.{actedNo, ifDone, ofHead}
-use Rattle.acts.specs.Create.{createAnswer, createCard}
-use Rattle.acts.specs.Link.{linkAnswer, linkCard}
-use Rattle.acts.specs.Unlink.{namedBy, unlinkAnswer, unlinkCard}
-use Rattle.acts.specs.Move.{moveAnswer, moveCard}
+use Rattle.acts.specs.Answers.{actedNo, ifDone, ofHead, namedBy}
+use Rattle.creating.specs.Create.{createAnswer, createCard}
+use Rattle.linking.specs.Link.{linkAnswer, linkCard}
+use Rattle.unlinking.specs.Unlink.{unlinkAnswer, unlinkCard}
+use Rattle.moving.specs.Move.{moveAnswer, moveCard}
 use Rattle.acts.specs.declared.Acted.{Acted}
 use Rattle.acts.specs.declared.Acted.the-variants as A
 use Rattle.acts.proofs.Ready.{below-ready, size-ready}
-use Rattle.sfs.specs.Said.{ifOpen}
-use Rattle.sfs.specs.declared.said.Said.{Said}
-use Rattle.sfs.proofs.Opened.{ready}
+use Rattle.said.specs.Said.{ifOpen}
+use Rattle.said.specs.declared.Said.{Said}
+use Rattle.said.proofs.Opened.{ready}
 use Rattle.theory.specs.Days.{Request}
 use Rattle.theory.specs.Calls.{Called, read, write, resize}
 use Rattle.theory.specs.Made.{Asked, Made, filed, create, link, unlink, move, find, list, describe, Run}

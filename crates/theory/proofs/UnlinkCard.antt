@@ -31,8 +31,8 @@ use Rattle.card.proofs.Kept.{Steady}
 use Rattle.card.proofs.Isolation.{others-same}
 use Rattle.entries.specs.Entries.{whereIs, removed}
 use Rattle.entries.proofs.Lookup.{where-hit}
-use Rattle.acts.specs.Answers.{actedNo}
-use Rattle.acts.specs.Unlink.{namedBy, linksLeft, parentLess, dropped, unlinked, unlinkAnswer, unlinkCard}
+use Rattle.acts.specs.Answers.{actedNo, namedBy}
+use Rattle.unlinking.specs.Unlink.{linksLeft, parentLess, dropped, unlinked, unlinkAnswer, unlinkCard}
 use Rattle.acts.specs.declared.Acted.the-variants.{Done}
 use Rattle.theory.proofs.Requests.{of-kind}
 use Rattle.theory.proofs.Counts.{subs-none}

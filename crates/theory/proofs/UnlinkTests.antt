@@ -19,8 +19,8 @@ use Rattle.entries.specs.Entries.{whereIs}
 use Rattle.entries.specs.Names.{dot, dots, isDots}
 use Rattle.entries.proofs.Lookup.{where-range, where-hit, where-not, where-only}
 use Rattle.entries.proofs.Given.{dots-apart}
-use Rattle.acts.specs.Answers.{actedNo, ofHead}
-use Rattle.acts.specs.Unlink.{namedBy, notEmpty, unlinkAnswer, unlinkCard}
+use Rattle.acts.specs.Answers.{actedNo, ofHead, namedBy}
+use Rattle.unlinking.specs.Unlink.{notEmpty, unlinkAnswer, unlinkCard}
 use Rattle.acts.specs.declared.Acted.{Acted}
 use Rattle.acts.specs.declared.Acted.the-variants.{Done, NotDir, IsDir, EntryNotFound, DirNotEmpty}
 use Rattle.theory.proofs.Requests.{OfKind, of-kind, kinds}

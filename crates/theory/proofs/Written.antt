@@ -21,7 +21,7 @@ use Rattle.card.specs.Places.{Place, at-inode, at-indirect, at-double, at-secon
 use Rattle.card.proofs.Cells.{rank}
 use Rattle.card.proofs.Frames.{SameBlock}
 use Rattle.card.proofs.Views.{data-direct, data-indirect, data-double, seconds-many, seconds-reach, seconds-some, ranges}
-use Rattle.blocks.specs.Steps.{Sizes}
+use Rattle.blocks.specs.Shape.{Sizes}
 use Rattle.blocks.specs.Taking.{Cursor}
 use Rattle.theory.proofs.Plan.{Had}
 use Rattle.theory.proofs.Tables.{tableOf, table-rank, table-first, table-second, had-table, blocks-apart, Seats, seatOf, Listed}

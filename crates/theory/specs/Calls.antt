@@ -1,4 +1,4 @@
--- A day as a program makes it: public calls one after the other, each with a scratch of its own, and what they say (sfs/specs/FileCalls).
+-- A day as a program makes it: public calls one after the other, each with a scratch of its own, and what they say (file_calls/specs/FileCalls).
 use Prim.Native.Nat.{ℕ, _+_, _-_, _≤_, _<_}
 use mathlib.Core.Path.{_≡_}
 use mathlib.Core.Bool.{Bool, true, false}
@@ -8,9 +8,9 @@ use lib.ListN.{length}
 use Rattle.words.specs.Words.{pick, byte, Bytes}
 use Rattle.words.specs.Sums.{cnt}
 use Rattle.layout.specs.Inode.{size}
-use Rattle.sfs.specs.Said.{saidNo}
-use Rattle.sfs.specs.FileCalls.{Read, Written, Sized}
-use Rattle.sfs.specs.declared.said.Said.{Said}
+use Rattle.said.specs.Said.{saidNo}
+use Rattle.file_calls.specs.FileCalls.{Read, Written, Sized}
+use Rattle.said.specs.declared.Said.{Said}
 use Rattle.theory.specs.Days.{Request, reading, writing, resizing, OfBytes}
 
 -- the call of a request on card img says r and leaves the card img′

@@ -1,7 +1,7 @@
--- The tried examples of document 01 that are marked *, in its order and with its numbers, over the definitions of the calls (acts/specs, files/specs): one
--- claim, `Examples`, which holds of any slice of bytes that is long enough (proofs/Examples). 97 is "a", 100 is "d"; the root is inode 1; the kinds are
--- 1 for a file and 2 for a directory. 01's numbers of the refusals are those of `filedNo` and `actedNo`: 7 IsDir, 8 BadName, 12 InvalidParam,
--- 14 NoDeviceSpace.
+-- The tried examples of document 01 that are marked *, in its order and with its numbers, over the definitions of the calls (files/specs and those of the
+-- directory calls): one claim, `Examples`, which holds of any slice of bytes that is long enough (proofs/Examples). 97 is "a", 100 is "d"; the root is inode
+-- 1; the kinds are 1 for a file and 2 for a directory. 01's numbers of the refusals are those of `filedNo` and `actedNo`: 7 IsDir, 8 BadName, 12
+-- InvalidParam, 14 NoDeviceSpace.
 use Prim.Native.Nat.{ℕ, _*_, _≤_}
 use mathlib.Core.Path.{_≡_}
 use mathlib.Core.List.{List, [], _∷_}
@@ -13,9 +13,9 @@ use Rattle.layout.specs.Slots.{owned}
 use Rattle.card.specs.View.{dataAt, name}
 use Rattle.entries.specs.Names.{dots}
 use Rattle.files.specs.Requests.{resizeAnswer, resizeCard, readAnswer, readBuffer}
-use Rattle.acts.specs.Format.{formatAnswer, formatCard}
-use Rattle.acts.specs.Create.{createAnswer, createCard}
-use Rattle.acts.specs.Unlink.{unlinkAnswer, unlinkCard}
+use Rattle.formatting.specs.Format.{formatAnswer, formatCard}
+use Rattle.creating.specs.Create.{createAnswer, createCard}
+use Rattle.unlinking.specs.Unlink.{unlinkAnswer, unlinkCard}
 use Rattle.files.specs.declared.Filed.the-variants as Filed
 use Rattle.acts.specs.declared.Acted.the-variants as Acted
 

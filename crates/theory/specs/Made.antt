@@ -1,13 +1,14 @@
--- Any public call on a card, and runs of them, each with a scratch of its own, whatever they say (sfs/specs/FileCalls, DirCalls).
+-- Any public call on a card, and runs of them, each with a scratch of its own, whatever they say (file_calls/specs, dir_calls/specs, look_calls/specs).
 use Prim.Native.Nat.{ℕ}
 use mathlib.Core.Path.{_≡_}
 use mathlib.Core.List.{List, [], _∷_}
 use Rattle.words.specs.Words.{Bytes}
 use Rattle.words.specs.Sums.{cnt}
 use Rattle.card.specs.Whole.{Reached}
-use Rattle.acts.specs.Unlink.{namedBy}
-use Rattle.sfs.specs.DirCalls.{Created, Linked, Unlinked, Moved, Found, Listed, Described}
-use Rattle.sfs.specs.declared.said.Said.{Said}
+use Rattle.acts.specs.Answers.{namedBy}
+use Rattle.dir_calls.specs.DirCalls.{Created, Linked, Unlinked, Moved}
+use Rattle.look_calls.specs.LookCalls.{Found, Listed, Described}
+use Rattle.said.specs.declared.Said.{Said}
 use Rattle.theory.specs.Days.{Request, reading, writing, resizing, named, OfBytes}
 use Rattle.theory.specs.Calls.{Called}
 

@@ -20,7 +20,7 @@ use layout::inode;
 use layout::inode::Decoded;
 use layout::inode::FileType;
 use layout::inode::Head;
-use names::reading;
+use names::loading;
 
 // How many children of a directory are directories, or that one of those has another parent.
 pub enum Kin {
@@ -49,13 +49,13 @@ fn family(image: &[u8], n: INodeId, e: usize) -> Kin
     ensures { λ r. ⌜ Kinds r (Kept (now (image .entry)) (n .0)) (Ups (now (image .entry)) (n .0) → ⊥) ⌝ }
 {
     let mut c = 0;
-    let mut p = reading::nowhere(n);
+    let mut p = loading::nowhere(n);
     let mut j = 0;
     while j < e {
-        p = reading::entry_after(image, n, p, 2 + j);
+        p = loading::entry_after(image, n, p, 2 + j);
         let m = p.number;
         if is_dir(image, m) {
-            let up = reading::entry_number(image, m, 1);
+            let up = loading::entry_number(image, m, 1);
             if up.0 != n.0 {
                 return Kin::Stray;
             }
@@ -202,7 +202,7 @@ fn rest(image: &[u8], s: &[u32], nb: usize, f: usize, t: usize) -> bool
     requires { ⌜ Space (now image) (now s) nb × (nb ≡ blocks (now image)) × (f ≡ maps (now image)) × Sized (now image) × (kind (now image) 1 ≡ 2) × Progress (now image) (now s) nb t t ⌝ }
     ensures { λ r. ⌜ When r (Whole (now (image .entry)) × Seen (now (image .entry)) (now (s .entry)) nb) (Whole (now (image .entry)) → ⊥) ⌝ }
 {
-    let up = reading::entry_number(image, INodeId(1), 1);
+    let up = loading::entry_number(image, INodeId(1), 1);
     if up.0 != 1 {
         return false;
     }

@@ -9,7 +9,7 @@ ghost use Rattle.card.specs.Whole.{Reached};
 ghost use Rattle.names.specs.Reading.{Readable};
 ghost use Rattle.walk.specs.Steps.{seenAt, Space, Ends, Queue, Noted, Lost, Scanned};
 use layout::INodeId;
-use names::reading;
+use names::loading;
 
 // Where the queue ends after a step, or that the card is not whole.
 pub enum End {
@@ -38,10 +38,10 @@ pub fn scan(image: &[u8], s: &mut [u32], nb: usize, n: INodeId, e: usize, t: usi
     ensures { λ r. ⌜ Ends r (λ t′. Scanned (now (image .entry)) (now (s .entry)) (now (s .exit)) nb (n .0) t t′) (Lost (now (image .entry)) (now (s .entry)) nb (n .0)) ⌝ }
 {
     let mut end = t;
-    let mut p = reading::nowhere(n);
+    let mut p = loading::nowhere(n);
     let mut j = 0;
     while j < e {
-        p = reading::entry_after(image, n, p, 2 + j);
+        p = loading::entry_after(image, n, p, 2 + j);
         let m = p.number;
         let at = m.0 as usize;
         if nb <= at {

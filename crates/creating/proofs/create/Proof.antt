@@ -1,0 +1,103 @@
+-- `creating::create` meets its contract. What is refused changes nothing; what is taken on has a name that fits, and a parent whose links may rise. Assumes nothing.
+use mathlib.Core.Path.{_≡_, sym, _∙_, subst}
+use Prim.Native.Nat.{_<_}
+use native.Mathlib.Omega.{arith}
+use Rattle.layout.specs.Inode.{decoded}
+use Rattle.layout.specs.declared.inode.Decoded.the-variants.{Good}
+use Rattle.blocks.specs.Shape.{Sizes}
+use Rattle.acts.specs.declared.Acted.{Acted}
+use Rattle.acts.proofs.Refused.{Refused}
+use Rattle.acts.proofs.Ready.{sizes-whole, below-ready, readable-ready}
+use Rattle.acts.proofs.Heads.{head-small}
+use Rattle.creating.proofs.CreateLaws.{taken-name, taken-links, create-refused, create-bad, create-done}
+use borrow.Author.Needs.{needs}
+use Rattle.creating.proofs.create.Statement.{statement}
+use Rattle.creating.proofs.create.Tie as tie
+
+judge-create-requires : tie.Need-judge-create-requires
+judge-create-requires c κs = search needs
+
+enum-told : tie.Need-enum-told
+enum-told c = search needs
+
+same-length : tie.Need-same-length
+same-length c = search needs
+
+returns : tie.Need-returns
+returns c =
+    let j = c .before .judge-create in
+    let a = c .before .before .before .before .before .args in
+    (j .ensures, sym (create-refused (a .nb) (a .image .now) (a .p .0) (a .x .now) (a .kind) (subst (λ (q : Acted). Refused q) (j .ensures) (c .match .keys2))))
+
+decode-requires : tie.Need-decode-requires
+decode-requires c κs =
+    let s = c .before .before .before .before .before .before .before in
+    omega (arith, readable-ready (s .args .image .now) (s .pre .0) (s .args .p .0) (s .pre .1) .here)
+
+enum-known-h : tie.Need-enum-known-h
+enum-known-h c = search needs
+
+enum-told-2 : tie.Need-enum-told-2
+enum-told-2 c = search needs
+
+same-length-2 : tie.Need-same-length-2
+same-length-2 c = search needs
+
+returns-2 : tie.Need-returns-2
+returns-2 c =
+    let a = c .before .before .before .before .before .before .before .before .before .before .args in
+    (c .before .before .before .before .before .before .judge-create .ensures, sym (create-bad (a .nb) (a .image .now) (a .p .0) (a .x .now) (a .kind) (sym (c .before .before .decode .ensures) ∙ c .enum-told2 .given .1)))
+
+record-with-requires : tie.Need-record-with-requires
+record-with-requires c κs =
+    let s = c .before .before .before .before .before .before .before .before .before .before .before .before in
+    omega (arith, readable-ready (s .args .image .now) (s .pre .0) (s .args .p .0) (s .pre .1) .here)
+
+make-requires : tie.Need-make-requires
+make-requires c κs =
+    let s = c .before .before .before .before .before .before .before .before .before .before .before .before .before .before in
+    let a = s .args in
+    let p = s .pre in
+    let h = c .before .before .before .before .h .given .0 .0 in
+    let g : decoded (a .image .now) (a .p .0) ≡ Good h = sym (c .before .before .before .before .before .before .decode .ensures) ∙ c .before .before .before .before .h .given .1 in
+    let e = sym (c .before .before .before .before .before .before .before .before .before .before .judge-create .ensures) ∙ c .before .before .before .before .before .before .before .before .enum-told .given .1 in
+    let l : h .nlinks < 65536 = search needs in
+    rw (c .before .record-with .ensures) (
+      subst (Sizes (a .image .now)) (sym (p .2)) (sizes-whole (a .image .now) (p .0)),
+      omega (arith, p .2, below-ready (a .image .now) (p .0) (a .p .0) (p .1)),
+      head-small (a .image .now) (p .0) (a .p .0) (p .1) h g,
+      taken-name (a .nb) (a .image .now) (a .p .0) (a .x .now) (a .kind) h g _ e,
+      taken-links (a .nb) (a .image .now) (a .p .0) (a .x .now) (a .kind) h g _ e l,
+    )
+
+same-length-3 : tie.Need-same-length-3
+same-length-3 c = search needs
+
+returns-3 : tie.Need-returns-3
+returns-3 c =
+    let a = c .before .before .before .before .before .before .before .before .before .before .before .before .before .before .before .before .before .args in
+    let h = c .before .before .before .before .before .before .before .h .given .0 .0 in
+    let g : decoded (a .image .now) (a .p .0) ≡ Good h = sym (c .before .before .before .before .before .before .before .before .before .decode .ensures) ∙ c .before .before .before .before .before .before .before .h .given .1 in
+    let j = c .before .before .before .before .before .before .before .before .before .before .before .before .before .judge-create in (
+      j .ensures,
+      rw (c .before .before .make .ensures, c .before .before .before .before .record-with .ensures)
+          (sym (create-done (a .nb) (a .image .now) (a .p .0) (a .x .now) (a .kind) h _ g (sym (j .ensures) ∙ c .before .before .before .before .before .before .before .before .before .before .before .enum-told .given .1))),
+    )
+
+pub create-spec : {M : Type 1} → statement M
+create-spec =
+    tie.close
+    (tie.spec
+    judge-create-requires
+    enum-told
+    same-length
+    returns
+    decode-requires
+    enum-known-h
+    enum-told-2
+    same-length-2
+    returns-2
+    record-with-requires
+    make-requires
+    same-length-3
+    returns-3)

@@ -1,0 +1,206 @@
+// Create: 01's tests, in its order, and then the act.
+ghost use mathlib.Core.Path.{_≡_};
+ghost use Prim.Native.Nat.{_+_, _≤_, _<_};
+ghost use mathlib.Core.Bool.{true, false};
+ghost use lib.Dec.{eqb};
+ghost use lib.ListN.{length};
+ghost use Rattle.words.specs.Words.{pick};
+ghost use Rattle.layout.specs.Super.{blocks};
+ghost use Rattle.layout.specs.Inode.{decoded, encoded};
+ghost use Rattle.layout.specs.declared.inode.Decoded.the-variants.{Good};
+ghost use Rattle.card.specs.Whole.{Reached, Whole};
+ghost use Rattle.blocks.specs.Shape.{Sizes};
+ghost use Rattle.files.specs.Resizing.{resized};
+ghost use Rattle.acts.specs.Answers.{isDir, fullLinks};
+ghost use Rattle.creating.specs.Create.{knownKind, fileKind, freshInode, createTakes, createRoom, createAnswer, madeFile, bareDir, emptyDir, madeDir, made, createCard};
+use acts::Acted;
+use acts::judging;
+use entries::editing;
+use entries::finding;
+use files::requests;
+use files::resizing;
+use freemap::Found;
+use growing;
+use layout::BlockId;
+use layout::INodeId;
+use layout::entry;
+use layout::inode;
+use layout::inode::Decoded;
+use layout::inode::DiskINode;
+use layout::inode::FileType;
+use layout::inode::Head;
+use layout::superblock;
+
+// Whether a kind is 1, 2 or 3.
+fn known_kind(kind: u32) -> bool
+    ensures { λ r. ⌜ r ≡ knownKind kind ⌝ }
+{
+    if kind == 0 {
+        return false;
+    }
+    kind < 4
+}
+
+// The kind of what is no directory.
+fn file_kind(kind: u32) -> FileType
+    ensures { λ r. ⌜ r ≡ fileKind kind ⌝ }
+{
+    if kind == 1 {
+        return FileType::File;
+    }
+    FileType::SymLink
+}
+
+// The lowest free block: the number that is answered. Nothing is taken yet.
+fn fresh_inode(image: &[u8], nb: u32) -> INodeId
+    requires { ⌜ Sizes (now image) nb ⌝ }
+    ensures { λ r. ⌜ r .0 ≡ freshInode nb (now (image .entry)) ⌝ }
+{
+    match freemap::find_free(image, BlockId(0), nb) {
+        Found::At(b) => INodeId(b.0),
+        Found::Nothing => INodeId(0),
+    }
+}
+
+// The inode's block, a directory's data block, and what the entry takes in a parent with head h.
+fn create_takes(h: Head, kind: u32) -> usize
+    requires { ⌜ h .size + 260 ≤ 4294967295 ⌝ }
+    ensures { λ r. ⌜ r ≡ createTakes h kind ⌝ }
+{
+    let k = judging::entry_needs(h);
+    if kind == 2 {
+        return 2 + k;
+    }
+    1 + k
+}
+
+// Whether the parent's links would rise past what its record counts.
+fn links_full(h: Head, kind: u32) -> bool
+    ensures { λ r. ⌜ r ≡ pick (eqb kind 2) (eqb (h .nlinks) fullLinks) false ⌝ }
+{
+    if kind == 2 {
+        return h.nlinks == 65535;
+    }
+    false
+}
+
+// 13 and 14.
+fn create_room(image: &[u8], nb: u32, h: Head, kind: u32) -> Acted
+    requires { ⌜ Sizes (now image) nb × (h .size + 260 ≤ 4294967295) ⌝ }
+    ensures { λ r. ⌜ r ≡ createRoom nb (now (image .entry)) h kind ⌝ }
+{
+    if links_full(h, kind) {
+        return Acted::TooManyLinks;
+    }
+    let u = superblock::unused_blocks(image);
+    let k = create_takes(h, kind);
+    if k > u as usize {
+        return Acted::NoDeviceSpace;
+    }
+    let i = fresh_inode(image, nb);
+    Acted::Done(i.0)
+}
+
+// 8, 9, 12, 13 and 14, in directory p with head h.
+fn judge_in(image: &[u8], nb: u32, p: INodeId, h: Head, x: &[u8], kind: u32) -> Acted
+    requires { ⌜ Whole (now image) × Reached (now image) (p .0) × (nb ≡ blocks (now image)) × (decoded (now image) (p .0) ≡ Good h) × (isDir (h .«type_») ≡ true) ⌝ }
+    ensures { λ r. ⌜ r ≡ createAnswer nb (now (image .entry)) (p .0) (now (x .entry)) kind ⌝ }
+{
+    if !finding::storable_name(x) {
+        return Acted::BadName;
+    }
+    if judging::is_there(image, p, h, x) < h.size as usize / 260 {
+        return Acted::EntryExist;
+    }
+    if !known_kind(kind) {
+        return Acted::InvalidParam;
+    }
+    create_room(image, nb, h, kind)
+}
+
+// What create answers. Nothing changes.
+pub fn judge_create(image: &[u8], nb: u32, p: INodeId, x: &[u8], kind: u32) -> Acted
+    requires { ⌜ Whole (now image) × Reached (now image) (p .0) × (nb ≡ blocks (now image)) ⌝ }
+    ensures { λ r. ⌜ r ≡ createAnswer nb (now (image .entry)) (p .0) (now (x .entry)) kind ⌝ }
+{
+    match judging::dir_head(image, p) {
+        Decoded::Good(h) => judge_in(image, nb, p, h, x, kind),
+        Decoded::BadKind => Acted::NotDir,
+    }
+}
+
+// A file or a symbolic link, in directory p with record d.
+fn make_file(image: &mut [u8], nb: u32, p: INodeId, d: DiskINode, x: &[u8], t: FileType)
+    requires { ⌜ Sizes (now image) nb × (p .0 < nb) × (d .head .size + 260 ≤ 4294967295) × (length (now x) ≤ 255) ⌝ }
+    ensures { λ _. ⌜ now (image .exit) ≡ madeFile nb (p .0) d (now (x .entry)) t (now (image .entry)) ⌝ }
+{
+    let b = growing::take_next(image, nb, BlockId(0));
+    let n = INodeId(b.0);
+    let f = DiskINode::new(t);
+    inode::encode(image, n, f.set_nlinks(1));
+    let e = entry::entry_of(n, x);
+    editing::append_direntry(image, nb, p, d, &e);
+}
+
+// Inode i as a directory of 520 bytes.
+fn make_bare(image: &mut [u8], nb: u32, i: INodeId)
+    requires { ⌜ Sizes (now image) nb × (i .0 < nb) ⌝ }
+    ensures { λ _. ⌜ now (image .exit) ≡ resized nb (i .0) bareDir 520 (encoded (now (image .entry)) (i .0) bareDir) ⌝ }
+{
+    let d = DiskINode::new(FileType::Dir);
+    let e = d.set_nlinks(2);
+    inode::encode(image, i, e);
+    resizing::resize_to(image, nb, i, e, 520);
+}
+
+// Block i becomes a directory of two entries, below p.
+fn make_empty(image: &mut [u8], nb: u32, i: INodeId, p: INodeId)
+    requires { ⌜ Sizes (now image) nb × (i .0 < nb) ⌝ }
+    ensures { λ _. ⌜ now (image .exit) ≡ emptyDir nb (i .0) (p .0) (now (image .entry)) ⌝ }
+{
+    make_bare(image, nb, i);
+    let e = entry::entry_of(i, b".");
+    editing::write_entry(image, nb, i, 0, &e);
+    let f = entry::entry_of(p, b"..");
+    editing::write_entry(image, nb, i, 1, &f);
+}
+
+// A directory, in directory p with record d, whose links rise.
+fn make_dir(image: &mut [u8], nb: u32, p: INodeId, d: DiskINode, x: &[u8])
+    requires { ⌜ Sizes (now image) nb × (p .0 < nb) × (d .head .size + 260 ≤ 4294967295) × (length (now x) ≤ 255) × (d .head .nlinks < fullLinks) ⌝ }
+    ensures { λ _. ⌜ now (image .exit) ≡ madeDir nb (p .0) d (now (x .entry)) (now (image .entry)) ⌝ }
+{
+    let b = growing::take_next(image, nb, BlockId(0));
+    let n = INodeId(b.0);
+    make_empty(image, nb, n, p);
+    let e = entry::entry_of(n, x);
+    editing::append_direntry(image, nb, p, d.set_nlinks(d.head.nlinks + 1), &e);
+}
+
+// What create does.
+fn make(image: &mut [u8], nb: u32, p: INodeId, d: DiskINode, x: &[u8], kind: u32)
+    requires { ⌜ Sizes (now image) nb × (p .0 < nb) × (d .head .size + 260 ≤ 4294967295) × (length (now x) ≤ 255) × (kind ≡ 2 → d .head .nlinks < fullLinks) ⌝ }
+    ensures { λ _. ⌜ now (image .exit) ≡ made nb (p .0) d (now (x .entry)) kind (now (image .entry)) ⌝ }
+{
+    if kind == 2 {
+        make_dir(image, nb, p, d, x);
+        return;
+    }
+    make_file(image, nb, p, d, x, file_kind(kind));
+}
+
+pub fn create(image: &mut [u8], nb: u32, p: INodeId, x: &[u8], kind: u32) -> Acted
+    requires { ⌜ Whole (now image) × Reached (now image) (p .0) × (nb ≡ blocks (now image)) ⌝ }
+    ensures { λ r. ⌜ (r ≡ createAnswer nb (now (image .entry)) (p .0) (now (x .entry)) kind) × (now (image .exit) ≡ createCard nb (now (image .entry)) (p .0) (now (x .entry)) kind) ⌝ }
+{
+    let r = judge_create(image, nb, p, x, kind);
+    let Acted::Done(_) = r else {
+        return r;
+    };
+    let Decoded::Good(h) = inode::decode(image, p) else {
+        return r;
+    };
+    let d = requests::record_with(image, p, h);
+    make(image, nb, p, d, x, kind);
+    r
+}

@@ -1,0 +1,3 @@
+pub mod FillBytes
+pub mod FileBytes
+pub mod Sound

@@ -1,0 +1,79 @@
+-- `look_calls::entry` meets its contract. An open card is whole, which is what the call asks. Assumes nothing.
+use mathlib.Core.Path.{refl, ap, _∙_}
+use Prim.Native.Nat.{ℕ}
+use denote.Ref.{now}
+use Rattle.acts.specs.declared.Acted.{Acted}
+use Rattle.said.specs.Said.{ofActed}
+use Rattle.said.proofs.Opened.{ready, on-open, on-shut}
+use Rattle.looking.specs.Look.{entryBytes}
+use borrow.Author.Needs.{needs}
+use Rattle.look_calls.proofs.entry.Statement.{statement}
+use Rattle.look_calls.proofs.entry.Tie as tie
+
+open-card-requires : tie.Need-open-card-requires
+open-card-requires c κs = search needs
+
+enum-known-o : tie.Need-enum-known-o
+enum-known-o c = search needs
+
+of-opened-requires : tie.Need-of-opened-requires
+of-opened-requires c κs = search needs
+
+same-length : tie.Need-same-length
+same-length c = search needs
+
+returns : tie.Need-returns
+returns c =
+    let o = c .before .before .before .before .open-card in
+    record {
+      opened = o .result;
+      opening = o .ensures;
+      said = on-shut (o .result) _ _ (c .before .match .keys2) (c .of-opened .ensures);
+      bytes = on-shut (o .result) _ _ (c .before .match .keys2) refl;
+    }
+
+judge-entry-requires : tie.Need-judge-entry-requires
+judge-entry-requires c κs =
+    let g = c .before .o .given in
+    let r = ready (g .0 .0) (c .before .before .before .before .before .open-card .ensures) (g .1) in
+    (r .card, r .first)
+
+of-acted-requires : tie.Need-of-acted-requires
+of-acted-requires c κs = search needs
+
+entry-requires : tie.Need-entry-requires
+entry-requires c κs =
+    let g = c .before .before .before .o .given in
+    let r = ready (g .0 .0) (c .before .before .before .before .before .before .before .open-card .ensures) (g .1) in
+    (r .card, r .first, r .blocks-is)
+
+same-length-2 : tie.Need-same-length-2
+same-length-2 c = search needs
+
+returns-2 : tie.Need-returns-2
+returns-2 c =
+    let o = c .before .before .before .before .before .before .before .before .open-card in
+    let g = c .before .before .before .before .o .given in
+    let a = c .before .before .before .before .before .before .before .before .before .before .before .before .args in
+    let r = ready (g .0 .0) (o .ensures) (g .1) in
+    record {
+      opened = o .result;
+      opening = o .ensures;
+      said = on-open (g .0 .0) _ _ (g .1) (c .before .of-acted .ensures ∙ ap (λ (x : Acted). ofActed x) (c .before .before .judge-entry .ensures));
+      bytes = on-open (g .0 .0) _ _ (g .1) (c .entry .ensures ∙ ap (λ (nb : ℕ). entryBytes nb (now (a .image)) (a .p .0) (a .k)) (r .blocks-is));
+    }
+
+pub entry-spec : {M : Type 1} → statement M
+entry-spec =
+    tie.close
+    (tie.spec
+    open-card-requires
+    enum-known-o
+    of-opened-requires
+    same-length
+    returns
+    judge-entry-requires
+    of-acted-requires
+    entry-requires
+    same-length-2
+    returns-2)

@@ -1,0 +1,42 @@
+-- `moving::judge_move` meets its contract. The head of the source decides (`move-no-dir`). Assumes nothing.
+use mathlib.Core.Path.{sym, _∙_}
+use native.Mathlib.Omega.{arith}
+use Rattle.layout.specs.Inode.{decoded}
+use Rattle.acts.proofs.Ready.{readable-ready}
+use Rattle.acts.proofs.Heads.{dir-good}
+use Rattle.moving.proofs.MoveLaws.{move-no-dir}
+use borrow.Author.Needs.{needs}
+use Rattle.moving.proofs.judge_move.Statement.{statement}
+use Rattle.moving.proofs.judge_move.Tie as tie
+
+dir-head-requires : tie.Need-dir-head-requires
+dir-head-requires c κs =
+    let s = c .before .before .before in
+    omega (arith, readable-ready (s .args .image .now) (s .pre .0) (s .args .p .0) (s .pre .1) .here)
+
+enum-known-s : tie.Need-enum-known-s
+enum-known-s c = search needs
+
+judge-target-requires : tie.Need-judge-target-requires
+judge-target-requires c κs =
+    let a = c .before .before .before .before .before .before .before .args in
+    let p = c .before .before .before .before .before .before .before .pre in
+    let g = dir-good (decoded (a .image .now) (a .p .0)) _ (sym (c .before .before .before .dir-head .ensures) ∙ c .before .s .given .1) in
+    (p .0, p .1, p .2, g .0, g .1)
+
+enum-told : tie.Need-enum-told
+enum-told c = search needs
+
+returns : tie.Need-returns
+returns c = search needs
+
+returns-2 : tie.Need-returns-2
+returns-2 c =
+    let a = c .before .before .before .before .before .before .args in
+    sym (move-no-dir (a .nb) (a .image .now) (a .p .0) (a .old .now) (a .t .0) (a .new .now)
+    (sym (c .before .before .dir-head .ensures) ∙ c .enum-told .given .1))
+
+pub judge-move-spec : {M : Type 1} → statement M
+judge-move-spec =
+    tie.close
+    (tie.spec dir-head-requires enum-known-s judge-target-requires enum-told returns returns-2)

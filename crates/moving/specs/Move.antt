@@ -1,0 +1,94 @@
+-- Move (document 01): "in one directory rewrites the name in place; otherwise it appends to the target, then removes, and for a directory adjusts both
+-- parents' links .. the number in ".." becomes the new parent's, its other bytes staying". Its tests, in order: source 6, 7, target 6, then 8, 9, 10, 12,
+-- 13, 14.
+use Prim.Native.Nat.{ℕ, zero, suc, _+_, _-_}
+use mathlib.Core.Bool.{Bool, true, false}
+use mathlib.Core.List.{List}
+use lib.Dec.{eqb, ltb}
+use lib.ListN.{replicate}
+use Rattle.words.specs.Words.{pick, putWord}
+use Rattle.layout.specs.Super.{unused}
+use Rattle.layout.specs.Inode.{decoded, withLinks}
+use Rattle.layout.specs.Entry.{entryOf}
+use Rattle.layout.specs.declared.inode.Head.{Head}
+use Rattle.layout.specs.declared.inode.DiskINode.{DiskINode}
+use Rattle.card.specs.View.{entries, entry}
+use Rattle.blocks.specs.Bytes.{filled}
+use Rattle.files.specs.Requests.{needs, recordWith}
+use Rattle.entries.specs.Entries.{whereIs, entryPut, appended, removed}
+use Rattle.entries.specs.Names.{isDots, storable}
+use Rattle.acts.specs.Answers.{ifDone, isDir, ofHead, fullLinks, namedBy}
+use Rattle.acts.specs.declared.Acted.{Acted}
+use Rattle.acts.specs.declared.Acted.the-variants.{
+  Done,
+  NotDir,
+  IsDir,
+  BadName,
+  EntryExist,
+  EntryNotFound,
+  InvalidParam,
+  TooManyLinks,
+  NoDeviceSpace,
+}
+
+-- whether climbing ".." from directory t meets c before the root, in at most so many steps: "a directory moved into itself or below"
+unfoldable pub climbs : List ℕ → ℕ → ℕ → ℕ → Bool
+climbs img c t zero = false
+climbs img c t (suc b) = pick (eqb t c) true (pick (eqb t 1) false (climbs img c (entry img t 1) b))
+
+-- 12, 13 and 14 for inode c with head g, and a target t with head h
+unfoldable pub moveRoom : ℕ → List ℕ → ℕ → Head → ℕ → Head → Acted
+moveRoom nb img c g t h =
+    pick (isDir (g .«type_»))
+    (pick (climbs img c t nb) InvalidParam (pick (eqb (h .nlinks) fullLinks) TooManyLinks room))
+    room
+  where
+    room : Acted
+    room = pick (ltb (unused img) (needs (h .blocks) (h .size + 260))) NoDeviceSpace (Done 0)
+
+-- the name `old` in p becomes `new` in t; a rename in one directory takes no block and no link, so that 12, 13 and 14 cannot arise
+unfoldable pub moveAnswer : ℕ → List ℕ → ℕ → List ℕ → ℕ → List ℕ → Acted
+moveAnswer nb img p old t new =
+    ofHead (decoded img p) NotDir
+    (λ s.
+    pick (isDir (s .«type_»))
+    (pick (isDots old) IsDir
+    (ofHead (decoded img t) NotDir
+    (λ h.
+    pick (isDir (h .«type_»))
+    (pick (storable new)
+    (pick (ltb (whereIs img t new) (entries img t)) EntryExist
+    (pick (ltb (whereIs img p old) (entries img p))
+    (pick (eqb p t) (Done 0) (ofHead (decoded img (namedBy img p old)) EntryNotFound (λ g. moveRoom nb img (namedBy img p old) g t h)))
+    EntryNotFound))
+    BadName)
+    NotDir)))
+    NotDir)
+
+-- ".." of directory c names t, its other bytes staying
+unfoldable pub upPut : ℕ → ℕ → ℕ → List ℕ → List ℕ
+upPut nb c t img = filled false (putWord (replicate 4 0) 0 t) nb c 260 264 img
+
+-- c moves from entry k of p to another directory t: d is the record of p, f that of t
+unfoldable pub movedFile : ℕ → ℕ → DiskINode → ℕ → ℕ → ℕ → DiskINode → List ℕ → List ℕ → List ℕ
+movedFile nb p d k c t f new img = removed nb p d k (appended nb t f (entryOf c new) img)
+
+unfoldable pub movedDir : ℕ → ℕ → DiskINode → ℕ → ℕ → ℕ → DiskINode → List ℕ → List ℕ → List ℕ
+movedDir nb p d k c t f new img =
+    upPut nb c t (movedFile nb p (withLinks d (d .head .nlinks - 1)) k c t (withLinks f (f .head .nlinks + 1)) new img)
+
+unfoldable pub moved : ℕ → ℕ → Head → ℕ → ℕ → Head → ℕ → Head → List ℕ → List ℕ → List ℕ
+moved nb p s k c g t h new img =
+    pick (eqb p t) (entryPut nb p k (entryOf c new) img)
+    (pick (isDir (g .«type_»))
+    (movedDir nb p (recordWith img p s) k c t (recordWith img t h) new img)
+    (movedFile nb p (recordWith img p s) k c t (recordWith img t h) new img))
+
+unfoldable pub moveCard : ℕ → List ℕ → ℕ → List ℕ → ℕ → List ℕ → List ℕ
+moveCard nb img p old t new =
+    ofHead (decoded img p) img
+    (λ s.
+    ofHead (decoded img t) img
+    (λ h.
+    ofHead (decoded img (namedBy img p old)) img
+    (λ g. ifDone (moveAnswer nb img p old t new) (moved nb p s (whereIs img p old) (namedBy img p old) g t h new img) img)))

@@ -1,0 +1,63 @@
+-- Unlink (document 01): "puts the last entry in the hole, shortens the directory by 260, and at no links frees the inode and all it owns; the dead record
+-- keeps its fields with links 0". Its tests, in order: 6, 7, 10, 11.
+use Prim.Native.Nat.{ℕ, _-_, _/_}
+use mathlib.Core.Bool.{Bool, true, false}
+use mathlib.Core.List.{List}
+use lib.Dec.{eqb, ltb}
+use Rattle.words.specs.Words.{pick}
+use Rattle.layout.specs.Inode.{decoded, encoded, withLinks}
+use Rattle.layout.specs.declared.inode.Head.{Head}
+use Rattle.layout.specs.declared.inode.DiskINode.{DiskINode}
+use Rattle.freemap.specs.Free.{freed}
+use Rattle.card.specs.View.{entries}
+use Rattle.blocks.specs.Taking.{shrunk}
+use Rattle.files.specs.Resizing.{fileBlocks}
+use Rattle.files.specs.Requests.{recordWith}
+use Rattle.entries.specs.Entries.{whereIs, removed}
+use Rattle.entries.specs.Names.{isDots}
+use Rattle.acts.specs.Answers.{ifDone, isDir, ofHead, namedBy}
+use Rattle.acts.specs.declared.Acted.{Acted}
+use Rattle.acts.specs.declared.Acted.the-variants.{Done, NotDir, IsDir, EntryNotFound, DirNotEmpty}
+
+-- "more than two entries", for an inode with head g
+abbrev pub notEmpty : Head → Bool
+notEmpty g = pick (isDir (g .«type_»)) (ltb 2 (g .size / 260)) false
+
+unfoldable pub unlinkAnswer : List ℕ → ℕ → List ℕ → Acted
+unlinkAnswer img p x =
+    ofHead (decoded img p) NotDir
+    (λ h.
+    pick (isDir (h .«type_»))
+    (pick (isDots x) IsDir
+    (pick (ltb (whereIs img p x) (entries img p))
+    (ofHead (decoded img (namedBy img p x)) EntryNotFound (λ g. pick (notEmpty g) DirNotEmpty (Done 0)))
+    EntryNotFound))
+    NotDir)
+
+-- the links that an inode with head g has left, and those of the directory with head h that named it
+abbrev pub linksLeft : Head → ℕ
+linksLeft g = g .nlinks - pick (isDir (g .«type_»)) 2 1
+
+abbrev pub parentLess : Head → Head → ℕ
+parentLess h g = h .nlinks - pick (isDir (g .«type_»)) 1 0
+
+-- inode c and all it owns freed: e is its record
+unfoldable pub dropped : ℕ → ℕ → DiskINode → List ℕ → List ℕ
+dropped nb c e img = freed (shrunk nb c e 0 (fileBlocks e) img) c
+
+-- c has one name less, which stood in entry k of p: d is the record of p, e that of c
+unfoldable pub unlinked : ℕ → ℕ → DiskINode → ℕ → ℕ → DiskINode → List ℕ → List ℕ
+unlinked nb p d k c e img = pick (eqb (linksLeft (e .head)) 0) (dropped nb c e less) less
+  where
+    less : List ℕ
+    less = encoded (removed nb p (withLinks d (parentLess (d .head) (e .head))) k img) c (withLinks e (linksLeft (e .head)))
+
+unfoldable pub unlinkCard : ℕ → List ℕ → ℕ → List ℕ → List ℕ
+unlinkCard nb img p x =
+    ofHead (decoded img p) img
+    (λ h.
+    ofHead (decoded img (namedBy img p x)) img
+    (λ g.
+    ifDone (unlinkAnswer img p x)
+    (unlinked nb p (recordWith img p h) (whereIs img p x) (namedBy img p x) (recordWith img (namedBy img p x) g) img)
+    img))
