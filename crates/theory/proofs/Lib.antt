@@ -64,10 +64,17 @@ pub mod Refusals
 pub mod Says
 pub mod DoneCalls
 pub mod Made
+pub mod Twins
 pub mod TailSteps
 pub mod TailActs
 pub mod TailCalls
 pub mod TailShown
+pub mod TwinSteps
+pub mod TwinActs
+pub mod TwinReads
+pub mod TwinAnswers
+pub mod TwinCards
+pub mod TwinCalls
 pub mod ExamplesFresh
 pub mod ExamplesFile
 pub mod Examples

@@ -91,14 +91,14 @@ module _ {A : Type 0} (P : A → Type 0) (img : List ℕ) (n : ℕ) (r : A) (f :
       go false false false = q
 
 -- 12: "a file's new length above 4,294,967,295"
-judged-small : (u : ℕ) (h : Head) (len : ℕ) → filedNo (judged u h len) ≡ 0 → len ≤ longest
+pub judged-small : (u : ℕ) (h : Head) (len : ℕ) → filedNo (judged u h len) ≡ 0 → len ≤ longest
 judged-small u h len e = go (decLt longest len)
   where
     go : Dec (longest < len) → len ≤ longest
     go (yes a) = absurd (omega (arith, ap filedNo (judged-long u h len a)))
     go (no a) = omega arith
 
-write-small : (u : ℕ) (h : Head) (end : ℕ) → filedNo (writeJudged u h end) ≡ 0 → h .size < end → end ≤ longest
+pub write-small : (u : ℕ) (h : Head) (end : ℕ) → filedNo (writeJudged u h end) ≡ 0 → h .size < end → end ≤ longest
 write-small u h end e l = judged-small u h end (ap filedNo (sym (write-past u h end l)) ∙ e)
 
 -- ---- the cards of the calls

@@ -1,0 +1,252 @@
+-- "Bytes past its last block are never read" (01), of the cards that the calls leave: made of two images with the same blocks, they have the same blocks
+-- again. Where a call refuses, both are as they were. Assumes nothing.
+use mathlib.Core.Path.{_≡_, refl, sym, ap, _∙_}
+use mathlib.Core.Logic.{_≢_}
+use mathlib.Core.Bool.{Bool, true, false}
+use mathlib.Core.List.{List}
+use Prim.Native.Nat.{ℕ, _*_, _≤_, _<_}
+use native.Mathlib.Omega.{arith}
+use native.Mathlib.Decide.{decLt}
+use lib.Dec.{eqb}
+use Rattle.words.specs.Words.{pick}
+use Rattle.layout.specs.Sizes.{fewest}
+use Rattle.layout.specs.Super.{blocks, unused}
+use Rattle.layout.specs.Inode.{size, kind, headAt, headBy, decoded}
+use Rattle.layout.specs.declared.inode.FileType.{FileType}
+use Rattle.layout.specs.declared.inode.FileType.the-variants.{File, Dir, SymLink}
+use Rattle.layout.specs.declared.inode.Head.{Head}
+use Rattle.layout.specs.declared.inode.Decoded.{Decoded}
+use Rattle.layout.specs.declared.inode.Decoded.the-variants.{Good, BadKind}
+use Rattle.card.specs.Whole.{Reached, Whole}
+use Rattle.files.specs.Requests.{filedNo, longest, byFile, judged, onDone, recordWith, resizeCard, endOf, writeJudged, writeCard}
+use Rattle.files.specs.declared.Filed.{Filed}
+use Rattle.files.specs.declared.Filed.the-variants as F
+use Rattle.entries.specs.Entries.{whereIs}
+use Rattle.acts.specs.Answers.{actedNo, ifDone, ofHead, namedBy}
+use Rattle.acts.specs.declared.Acted.{Acted}
+use Rattle.acts.specs.declared.Acted.the-variants as A
+use Rattle.acts.proofs.Ready.{below-ready, size-ready}
+use Rattle.creating.specs.Create.{createAnswer, createCard}
+use Rattle.linking.specs.Link.{linkAnswer, linkCard}
+use Rattle.unlinking.specs.Unlink.{unlinkAnswer, unlinkCard}
+use Rattle.moving.specs.Move.{moveAnswer, moveCard}
+use Rattle.theory.proofs.UnlinkTests.{target, unlink-refused}
+use Rattle.theory.proofs.MoveTests.{move-tests, move-can}
+use Rattle.theory.proofs.MoveJudged.{judged as move-judged, move-refused}
+use Rattle.theory.proofs.TailCalls.{judged-small, write-small}
+use Rattle.theory.proofs.Twins.{Twin}
+use Rattle.theory.proofs.TwinSteps.{twin-filled}
+use Rattle.theory.proofs.TwinActs.{twin-resized, twin-reaching, twin-made, twin-linked, twin-unlinked, twin-moved}
+use Rattle.theory.proofs.TwinReads.{decoded-twin, unused-twin, record-twin, where-twin, entry-twin}
+use Rattle.theory.proofs.TwinAnswers.{createAnswer-twin, linkAnswer-twin, unlinkAnswer-twin, moveAnswer-twin}
+
+-- ---- one test on both sides
+
+both-if : {A : Type 0} (R : A → A → Type 0) (a : Acted) (x y r s : A) → R x y → R r s → R (ifDone a x r) (ifDone a y s)
+both-if R (A.Done v) x y r s p q = p
+both-if R A.NotDir x y r s p q = q
+both-if R A.IsDir x y r s p q = q
+both-if R A.BadName x y r s p q = q
+both-if R A.EntryExist x y r s p q = q
+both-if R A.EntryNotFound x y r s p q = q
+both-if R A.DirNotEmpty x y r s p q = q
+both-if R A.InvalidParam x y r s p q = q
+both-if R A.TooManyLinks x y r s p q = q
+both-if R A.NoDeviceSpace x y r s p q = q
+
+both-done : {A : Type 0} (R : A → A → Type 0) (f : Filed) (x y r s : A) → (filedNo f ≡ 0 → R x y) → R r s → R (onDone f x r) (onDone f y s)
+both-done R (F.Done v) x y r s p q = p refl
+both-done R F.NotFile x y r s p q = q
+both-done R F.InvalidParam x y r s p q = q
+both-done R F.NoDeviceSpace x y r s p q = q
+
+-- whatever kind the record is of
+module _ {A : Type 0} (R : A → A → Type 0) (img : List ℕ) (n : ℕ) (r s : A) (f g : Head → A)
+    (p : (k : FileType) → R (f (headAt img n k)) (g (headAt img n k))) (q : R r s) where
+  abbrev choice : Bool → Bool → Bool → Decoded
+  choice a b c = pick a (Good (headAt img n File)) (pick b (Good (headAt img n Dir)) (pick c (Good (headAt img n SymLink)) BadKind))
+
+  both-head : R (ofHead (decoded img n) r f) (ofHead (decoded img n) s g)
+  unfolding headBy
+  both-head = go (eqb (kind img n) 1) (eqb (kind img n) 2) (eqb (kind img n) 3)
+    where
+      go : (a b c : Bool) → R (ofHead (choice a b c) r f) (ofHead (choice a b c) s g)
+      go true b c = p File
+      go false true c = p Dir
+      go false false true = p SymLink
+      go false false false = q
+
+  both-file : R (byFile (decoded img n) r f) (byFile (decoded img n) s g)
+  unfolding headBy
+  both-file = go (eqb (kind img n) 1) (eqb (kind img n) 2) (eqb (kind img n) 3)
+    where
+      go : (a b c : Bool) → R (byFile (choice a b c) r f) (byFile (choice a b c) s g)
+      go true b c = p File
+      go false true c = q
+      go false false true = p SymLink
+      go false false false = q
+
+-- ---- the cards of the calls
+
+module _ {img out : List ℕ} (w : Whole img) (t : Twin (blocks img) img out) where
+  abbrev nb : ℕ
+  nb = blocks img
+
+  abbrev Same : List ℕ → List ℕ → Type 0
+  Same x y = Twin nb x y
+
+  few : fewest ≤ nb
+  few = w .sound .sized .few
+
+  module _ (n : ℕ) (r : Reached img n) where
+    here : n < nb
+    here = below-ready img w n r
+
+    small : size img n ≤ longest
+    small = omega (arith, size-ready img w n r)
+
+    pub resizeCard-twin : (len : ℕ) → Same (resizeCard nb img n len) (resizeCard nb out n len)
+    unfolding resizeCard
+    resizeCard-twin len =
+        rw (decoded-twin w t n r, unused-twin w t)
+        (both-file Same img n img out _ _
+        (λ k.
+        both-done Same (judged (unused img) (headAt img n k) len) _ _ img out
+        (λ e.
+        rw (record-twin w t n r (headAt img n k))
+        (twin-resized nb few n here (recordWith img n (headAt img n k)) t len (omega (arith, judged-small (unused img) (headAt img n k) len e))))
+        t)
+        t)
+
+    pub writeCard-twin : (off : ℕ) (src : List ℕ) → Same (writeCard nb img n off src) (writeCard nb out n off src)
+    unfolding writeCard
+    writeCard-twin off src =
+        rw (decoded-twin w t n r, unused-twin w t)
+        (both-file Same img n img out _ _
+        (λ k.
+        both-done Same (writeJudged (unused img) (headAt img n k) (endOf off src)) _ _ img out
+        (λ e.
+        rw (record-twin w t n r (headAt img n k))
+        (twin-filled nb few false src off (endOf off src) n here
+        (omega (arith, within (headAt img n k) small (write-small (unused img) (headAt img n k) (endOf off src) e)))
+        (twin-reaching nb few n here (recordWith img n (headAt img n k)) t (endOf off src)
+        (write-small (unused img) (headAt img n k) (endOf off src) e))))
+        t)
+        t)
+      where
+        -- a write that is done ends within what a file can have
+        within : (h : Head) → h .size ≤ longest → (h .size < endOf off src → endOf off src ≤ longest) → endOf off src ≤ longest
+        within h l m = go (decLt (h .size) (endOf off src))
+          where
+            go : Dec (h .size < endOf off src) → endOf off src ≤ longest
+            go (yes a) = m a
+            go (no a) = omega arith
+
+    pub createCard-twin : (x : List ℕ) (k : ℕ) → Same (createCard nb img n x k) (createCard nb out n x k)
+    unfolding createCard
+    createCard-twin x k =
+        rw (decoded-twin w t n r, createAnswer-twin w t n r x k)
+        (both-head Same img n img out _ _
+        (λ m.
+        both-if Same (createAnswer nb img n x k) _ _ img out
+        (rw (record-twin w t n r (headAt img n m)) (twin-made nb few n here (recordWith img n (headAt img n m)) small x t k))
+        t)
+        t)
+
+    pub linkCard-twin : (x : List ℕ) (c : ℕ) → Reached img c → Same (linkCard nb img n x c) (linkCard nb out n x c)
+    unfolding linkCard
+    linkCard-twin x c q =
+        rw (decoded-twin w t n r, decoded-twin w t c q, linkAnswer-twin w t n r x c q)
+        (both-head Same img n img out _ _
+        (λ k.
+        both-head Same img c img out _ _
+        (λ m.
+        both-if Same (linkAnswer img n x c) _ _ img out
+        (rw (record-twin w t n r (headAt img n k), record-twin w t c q (headAt img c m))
+        (twin-linked nb few n here (recordWith img n (headAt img n k)) small x t c (recordWith img c (headAt img c m))))
+        t)
+        t)
+        t)
+
+    unlink-done-twin : (x : List ℕ) → actedNo (unlinkAnswer img n x) ≡ 0 → Same (unlinkCard nb img n x) (unlinkCard nb out n x)
+    unfolding unlinkCard
+    unlink-done-twin x e =
+        let g = target w n r x e .1 in
+        let c = namedBy img n x in
+        rw (
+          decoded-twin w t n r,
+          where-twin w t n r x,
+          entry-twin w t n r (whereIs img n x) (g .there),
+          decoded-twin w t c (g .reached),
+          unlinkAnswer-twin w t n r x,
+        )
+        (both-head Same img n img out _ _
+        (λ k.
+        both-head Same img c img out _ _
+        (λ m.
+        both-if Same (unlinkAnswer img n x) _ _ img out
+        (rw (record-twin w t n r (headAt img n k), record-twin w t c (g .reached) (headAt img c m))
+        (twin-unlinked nb few n here (recordWith img n (headAt img n k)) small (whereIs img n x) (omega (arith, g .there, small)) c
+        (below-ready img w c (g .reached))
+        (recordWith img c (headAt img c m))
+        t))
+        t)
+        t)
+        t)
+
+    pub unlinkCard-twin : (x : List ℕ) → Same (unlinkCard nb img n x) (unlinkCard nb out n x)
+    unlinkCard-twin x = go (decLt 0 (actedNo (unlinkAnswer img n x)))
+      where
+        refused : actedNo (unlinkAnswer img n x) ≢ 0 → Same (unlinkCard nb img n x) (unlinkCard nb out n x)
+        refused d =
+            rw (unlink-refused nb img n x d, unlink-refused nb out n x (λ e. d (ap actedNo (sym (unlinkAnswer-twin w t n r x)) ∙ e))) t
+
+        go : Dec (0 < actedNo (unlinkAnswer img n x)) → Same (unlinkCard nb img n x) (unlinkCard nb out n x)
+        go (yes l) = refused (λ e. omega arith)
+        go (no l) = unlink-done-twin x (omega arith)
+
+    move-done-twin : (old : List ℕ) (a : ℕ) (new : List ℕ) → (q : Reached img a) → actedNo (moveAnswer nb img n old a new) ≡ 0 → Same (moveCard nb img n old a new) (moveCard nb out n old a new)
+    unfolding moveCard
+    move-done-twin old a new q e =
+        let g = move-judged w n a old new r q (move-can (move-tests w n r old a q new) e .3) in
+        let c = namedBy img n old in
+        rw (
+          decoded-twin w t n r,
+          decoded-twin w t a q,
+          where-twin w t n r old,
+          entry-twin w t n r (whereIs img n old) (g .there),
+          decoded-twin w t c (g .c-reached),
+          moveAnswer-twin w t n r old a q new,
+        )
+        (both-head Same img n img out _ _
+        (λ k.
+        both-head Same img a img out _ _
+        (λ m.
+        both-head Same img c img out _ _
+        (λ f.
+        both-if Same (moveAnswer nb img n old a new) _ _ img out
+        (twin-moved nb few n here (whereIs img n old) (omega (arith, g .there, small)) c (below-ready img w c (g .c-reached)) a (below-ready img w a q) new t
+        (headAt img n k)
+        (headAt img c f)
+        (headAt img a m)
+        small
+        (omega (arith, size-ready img w a q)))
+        t)
+        t)
+        t)
+        t)
+
+    pub moveCard-twin : (old : List ℕ) (a : ℕ) (new : List ℕ) → Reached img a → Same (moveCard nb img n old a new) (moveCard nb out n old a new)
+    moveCard-twin old a new q = go (decLt 0 (actedNo (moveAnswer nb img n old a new)))
+      where
+        refused : actedNo (moveAnswer nb img n old a new) ≢ 0 → Same (moveCard nb img n old a new) (moveCard nb out n old a new)
+        refused d =
+            rw (
+              move-refused nb img n old a new d,
+              move-refused nb out n old a new (λ e. d (ap actedNo (sym (moveAnswer-twin w t n r old a q new)) ∙ e)),
+            )
+            t
+
+        go : Dec (0 < actedNo (moveAnswer nb img n old a new)) → Same (moveCard nb img n old a new) (moveCard nb out n old a new)
+        go (yes l) = refused (λ e. omega arith)
+        go (no l) = move-done-twin old a new q (omega arith)

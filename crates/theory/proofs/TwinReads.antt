@@ -1,0 +1,184 @@
+-- "Bytes past its last block are never read" (01), of all that the calls read: two images with the same blocks have the same superblock, map, records,
+-- entries and file bytes, and if one of them is a whole card, so is the other, with the same inodes. Assumes nothing.
+use mathlib.Core.Path.{_≡_, refl, sym, ap, _∙_}
+use mathlib.Core.List.{List}
+use Prim.Native.Nat.{ℕ, _+_, _*_, _≤_, _<_, min}
+use native.Mathlib.Omega.{arith}
+use lib.ListN.{length, replicate}
+use Rattle.words.specs.Words.{pick}
+use Rattle.layout.specs.Super.{magic, blocks, unused, maps}
+use Rattle.layout.specs.Inode.{size, kind, links, count, decoded, directs}
+use Rattle.layout.specs.declared.inode.Head.{Head}
+use Rattle.layout.specs.declared.inode.Decoded.{Decoded}
+use Rattle.layout.specs.declared.inode.Decoded.the-variants.{Good, BadKind}
+use Rattle.freemap.proofs.First.{first-cong}
+use Rattle.card.specs.View.{fileByte, fileBytes, entries, entry, name}
+use Rattle.card.specs.Whole.{Reached, Whole}
+use Rattle.card.specs.Places.{held}
+use Rattle.card.proofs.Owners.{held-below}
+use Rattle.card.proofs.Tree.{reached-listed}
+use Rattle.card.proofs.Frames.{
+  SameBlock,
+  SameRecord,
+  SameFile,
+  block-record,
+  size-is,
+  kind-is,
+  links-is,
+  count-is,
+  decoded-is,
+  directs-is,
+  entries-is,
+  fileByte-is,
+  fileBytes-is,
+  entry-is,
+  name-is,
+  file-held,
+}
+use Rattle.card.proofs.Kept.{SameSuper, super-block, magic-is, blocks-is, unused-is, maps-is, reached-to, reached-from}
+use Rattle.card.proofs.Tail.{tail-free}
+use Rattle.blocks.specs.Bytes.{readInto}
+use Rattle.blocks.specs.Taking.{nextFree}
+use Rattle.files.specs.Requests.{byKind, byFile, recordWith, readBuffer}
+use Rattle.entries.specs.Entries.{eqs, sameAs, whereIs, entryAt}
+use Rattle.acts.specs.Answers.{namedBy}
+use Rattle.acts.proofs.Ready.{inode-ready, below-ready, size-ready}
+use Rattle.acts.proofs.Heads.{head-is}
+use Rattle.theory.proofs.Twins.{Twin}
+use Rattle.theory.proofs.TwinSteps.{nextFree-twin}
+use Rattle.theory.proofs.TwinActs.{read-twin}
+
+-- ---- on any bytes
+
+module _ {nb : ℕ} {img out : List ℕ} (t : Twin nb img out) where
+  pub twin-sym : Twin nb out img
+  twin-sym = record { length-same = sym (t .length-same); room = omega (arith, t .room, t .length-same); below = λ j l. sym (t .below j l) }
+
+  pub twin-block : (b : ℕ) → b < nb → SameBlock img out b
+  twin-block b l = record { bytes = λ k h. t .below (4096 * b + k) (omega arith) }
+
+  pub twin-record : (n : ℕ) → n < nb → SameRecord img out n
+  twin-record n l = block-record (twin-block n l)
+
+  pub twin-super : 0 < nb → SameSuper img out
+  twin-super l = super-block (twin-block 0 l)
+
+-- ---- on a whole card
+
+module _ {img out : List ℕ} (w : Whole img) (t : Twin (blocks img) img out) where
+  same-super : SameSuper img out
+  same-super = twin-super t (omega (arith, w .sound .sized .few))
+
+  pub magic-twin : magic out ≡ magic img
+  magic-twin = magic-is same-super
+
+  pub blocks-twin : blocks out ≡ blocks img
+  blocks-twin = blocks-is same-super
+
+  pub unused-twin : unused out ≡ unused img
+  unused-twin = unused-is same-super
+
+  pub maps-twin : maps out ≡ maps img
+  maps-twin = maps-is same-super
+
+  pub next-twin : nextFree (blocks img) out 0 ≡ nextFree (blocks img) img 0
+  next-twin = sym (nextFree-twin (blocks img) (w .sound .sized .few) 0 t)
+
+  pub whole-twin : Whole out
+  whole-twin = tail-free w (t .length-same) (t .below)
+
+  pub file-twin : (n : ℕ) → Reached img n → SameFile img out n
+  file-twin n r =
+      file-held img out n (λ p u. twin-block t (held img n p) (held-below img (w .inodes) (w .sound) n p (reached-listed img w n r) u))
+
+  -- the reached inodes are the same, both ways
+  pub reached-on : (n : ℕ) → Reached img n → Reached out n
+  reached-on =
+      reached-to (w .tree) (λ n r. kind-is (file-twin n r .slots .rec)) (λ n r. links-is (file-twin n r .slots .rec))
+      (λ n r _. inode-ready img w n r) (λ n r _. file-twin n r)
+
+  pub reached-back : (n : ℕ) → Reached out n → Reached img n
+  reached-back =
+      reached-from (w .tree) (λ n r. kind-is (file-twin n r .slots .rec)) (λ n r. links-is (file-twin n r .slots .rec))
+      (λ n r _. inode-ready img w n r) (λ n r _. file-twin n r)
+
+  -- ---- a reached inode
+
+  module _ (n : ℕ) (r : Reached img n) where
+    same-record : SameRecord img out n
+    same-record = file-twin n r .slots .rec
+
+    pub size-twin : size out n ≡ size img n
+    size-twin = size-is same-record
+
+    pub kind-twin : kind out n ≡ kind img n
+    kind-twin = kind-is same-record
+
+    pub links-twin : links out n ≡ links img n
+    links-twin = links-is same-record
+
+    pub count-twin : count out n ≡ count img n
+    count-twin = count-is same-record
+
+    pub decoded-twin : decoded out n ≡ decoded img n
+    decoded-twin = decoded-is same-record
+
+    pub directs-twin : directs out n ≡ directs img n
+    directs-twin = directs-is same-record
+
+    pub record-twin : (h : Head) → recordWith out n h ≡ recordWith img n h
+    record-twin h = rw directs-twin
+
+    pub entries-twin : entries out n ≡ entries img n
+    entries-twin = entries-is same-record
+
+    -- ---- its bytes
+
+    pub fileByte-twin : (o : ℕ) → o < 4096 * count img n → fileByte out n o ≡ fileByte img n o
+    fileByte-twin = fileByte-is (file-twin n r)
+
+    pub fileBytes-twin : (o k : ℕ) → o + k ≤ 4096 * count img n → fileBytes out n o k ≡ fileBytes img n o k
+    fileBytes-twin = fileBytes-is (file-twin n r)
+
+    pub readInto-twin : (off end : ℕ) → end ≤ size img n → (buf : List ℕ) → readInto out (blocks img) n off end buf ≡ readInto img (blocks img) n off end buf
+    readInto-twin off end l buf =
+        sym (read-twin (blocks img) (w .sound .sized .few) off end t n (below-ready img w n r) (omega (arith, size-ready img w n r)) buf)
+
+    -- ---- its entries
+
+    pub entry-twin : (k : ℕ) → k < entries img n → entry out n k ≡ entry img n k
+    entry-twin = entry-is (file-twin n r) (inode-ready img w n r)
+
+    pub name-twin : (k : ℕ) → k < entries img n → name out n k ≡ name img n k
+    name-twin = name-is (file-twin n r) (inode-ready img w n r)
+
+    pub entryAt-twin : (k : ℕ) → k < entries img n → entryAt (blocks img) out n k ≡ entryAt (blocks img) img n k
+    unfolding entryAt
+    entryAt-twin k l = readInto-twin (260 * k) (260 * k + 260) (omega arith) (replicate 260 0)
+
+    -- where a name is goes by the names of the entries; where none has it, it is the number of entries
+    pub where-twin : (x : List ℕ) → whereIs out n x ≡ whereIs img n x
+    unfolding whereIs
+    where-twin x =
+        rw entries-twin
+        (first-cong (sameAs out n x) (sameAs img n x) 0 (entries img n)
+        (λ k a l. ap (λ (y : List ℕ). pick (eqs y x) 1 0) (name-twin k (omega arith))))
+
+    -- past the entries there may be no block: what a name stands for is the same where the name is found
+    pub named-twin : (x : List ℕ) → whereIs img n x < entries img n → namedBy out n x ≡ namedBy img n x
+    named-twin x l = ap (entry out n) (where-twin x) ∙ entry-twin (whereIs img n x) l
+
+    -- ---- a buffer that it is read into
+
+    pub readBuffer-twin : (off : ℕ) (buf : List ℕ) → readBuffer (blocks img) out n off buf ≡ readBuffer (blocks img) img n off buf
+    unfolding readBuffer
+    readBuffer-twin off buf = ap (λ (d : Decoded). by out d) decoded-twin ∙ go (decoded img n) refl
+      where
+        by : List ℕ → Decoded → List ℕ
+        by x d = byFile d buf (λ h. readInto x (blocks img) n (min (h .size) off) (min (h .size) (off + length buf)) buf)
+
+        go : (d : Decoded) → decoded img n ≡ d → by out d ≡ by img d
+        go BadKind e = refl
+        go (Good h) e =
+            ap (λ (x : List ℕ). byKind (h .«type_») buf x)
+            (readInto-twin (min (h .size) off) (min (h .size) (off + length buf)) (omega (arith, head-is img n h e .size-is)) buf)
