@@ -9,7 +9,7 @@ here=$(cd "$(dirname "${BASH_SOURCE[0]}")" && pwd)
 . "$here/tools.sh"
 
 # The longest first, so that the last ones fill what is left.
-tests=${OUTSIDE:-check files calls dirs cli replay oracle host}
+tests=${OUTSIDE:-cli check files calls dirs replay oracle host}
 logs=$(mktemp -d)
 trap 'rm -rf "$logs"' EXIT
 failed=0
@@ -20,7 +20,11 @@ has() {
 
 # The archive that the tests link, from what was just proved.
 if has check || has files || has calls || has dirs || has cli; then
-    (cd "$here/.." && rt staticlib sfs >/dev/null) || { echo "outside: FAILED: rt staticlib sfs"; failed=1; }
+    if ! (cd "$here/.." && rt staticlib sfs) >"$logs/staticlib" 2>&1; then
+        cat "$logs/staticlib"
+        echo "outside: FAILED: rt staticlib sfs"
+        failed=1
+    fi
 fi
 
 built=yes
