@@ -1,4 +1,4 @@
--- What the functions below a file's blocks ask of a card.
+-- What the functions that change a file's blocks ask of a card: its size, and nothing of what it holds.
 use Prim.Native.Nat.{ℕ, _*_, _≤_}
 use mathlib.Core.List.{List}
 use lib.ListN.{length}

@@ -1,5 +1,5 @@
 -- The statements of find, the entry at an index and metadata: for every image, scratch, number, name and index one answer, and the scratch afterwards (s
--- and s′ are the scratch before and after). None has the image but to read it.
+-- and s′ are the scratch before and after). The image is lent to be read.
 use Prim.Native.Nat.{ℕ}
 use mathlib.Core.Path.{_≡_}
 use mathlib.Core.List.{List}

@@ -64,6 +64,7 @@ pub mod Refusals
 pub mod Says
 pub mod DoneCalls
 pub mod Made
+pub mod Both
 pub mod Twins
 pub mod TailSteps
 pub mod TailActs

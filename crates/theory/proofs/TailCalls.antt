@@ -1,29 +1,24 @@
 -- "Bytes past its last block are never read or changed" (01), of changes, for every public call and every run of them: the image keeps its length and all
 -- bytes past the card's last block. A single call does so on any bytes, a card or not: one that is no whole card it leaves alone. Assumes nothing.
 use mathlib.Core.Path.{_≡_, refl, sym, ap, _∙_}
-use mathlib.Core.Bool.{Bool, true, false}
+use mathlib.Core.Bool.{false}
 use mathlib.Core.List.{List}
 use Prim.Native.Nat.{ℕ, _*_, _≤_, _<_}
 use native.Mathlib.Omega.{arith}
 use native.Mathlib.Decide.{decLt}
-use lib.Dec.{eqb}
 use lib.ListN.{length}
-use Rattle.words.specs.Words.{pick, byte, Bytes}
+use Rattle.words.specs.Words.{byte, Bytes}
 use Rattle.layout.specs.Sizes.{fewest}
 use Rattle.layout.specs.Super.{blocks, unused}
-use Rattle.layout.specs.Inode.{size, kind, headAt, headBy, decoded}
+use Rattle.layout.specs.Inode.{size, headAt, decoded}
 use Rattle.layout.specs.declared.inode.FileType.{FileType}
-use Rattle.layout.specs.declared.inode.FileType.the-variants.{File, Dir, SymLink}
 use Rattle.layout.specs.declared.inode.Head.{Head}
-use Rattle.layout.specs.declared.inode.Decoded.{Decoded}
-use Rattle.layout.specs.declared.inode.Decoded.the-variants.{Good, BadKind}
 use Rattle.card.specs.Whole.{Reached, Whole}
 use Rattle.walk.specs.declared.Opened.{Opened}
 use Rattle.walk.specs.declared.Opened.the-variants.{Open, ScratchShort, WrongFs, Damaged, NoInode}
 use Rattle.walk.specs.Opening.{Opening}
 use Rattle.files.specs.Requests.{filedNo, longest, byFile, judged, onDone, recordWith, resizeCard, endOf, writeJudged, writeCard}
 use Rattle.files.specs.declared.Filed.{Filed}
-use Rattle.files.specs.declared.Filed.the-variants as F
 use Rattle.entries.specs.Entries.{whereIs}
 use Rattle.acts.specs.Answers.{actedNo, ifDone, ofHead, namedBy}
 use Rattle.creating.specs.Create.{createAnswer, createCard}
@@ -31,7 +26,6 @@ use Rattle.linking.specs.Link.{linkAnswer, linkCard}
 use Rattle.unlinking.specs.Unlink.{unlinkAnswer, unlinkCard}
 use Rattle.moving.specs.Move.{moveAnswer, moveCard}
 use Rattle.acts.specs.declared.Acted.{Acted}
-use Rattle.acts.specs.declared.Acted.the-variants as A
 use Rattle.acts.proofs.Ready.{below-ready, size-ready}
 use Rattle.said.specs.Said.{ifOpen}
 use Rattle.said.specs.declared.Said.{Said}
@@ -39,6 +33,7 @@ use Rattle.said.proofs.Opened.{ready}
 use Rattle.theory.specs.Days.{Request}
 use Rattle.theory.specs.Calls.{Called, read, write, resize}
 use Rattle.theory.specs.Made.{Asked, Made, filed, create, link, unlink, move, find, list, describe, Run}
+use Rattle.theory.proofs.Both.{both-if, both-done, both-head, both-file}
 use Rattle.theory.proofs.Requests.{judged-long, write-past}
 use Rattle.theory.proofs.UnlinkTests.{target}
 use Rattle.theory.proofs.Made.{made-frame, made-whole, made-bytes}
@@ -48,47 +43,18 @@ use Rattle.theory.proofs.TailActs.{twelve-at, tail-resized, tail-reachi
 -- ---- what a call leaves, by its tests
 
 if-done : {A : Type 0} (P : A → Type 0) (a : Acted) (x r : A) → (actedNo a ≡ 0 → P x) → P r → P (ifDone a x r)
-if-done P (A.Done v) x r p q = p refl
-if-done P A.NotDir x r p q = q
-if-done P A.IsDir x r p q = q
-if-done P A.BadName x r p q = q
-if-done P A.EntryExist x r p q = q
-if-done P A.EntryNotFound x r p q = q
-if-done P A.DirNotEmpty x r p q = q
-if-done P A.InvalidParam x r p q = q
-if-done P A.TooManyLinks x r p q = q
-if-done P A.NoDeviceSpace x r p q = q
+if-done P a x r p q = both-if (λ x _. P x) a x x r r p q
 
 on-done : {A : Type 0} (P : A → Type 0) (f : Filed) (x r : A) → (filedNo f ≡ 0 → P x) → P r → P (onDone f x r)
-on-done P (F.Done v) x r p q = p refl
-on-done P F.NotFile x r p q = q
-on-done P F.InvalidParam x r p q = q
-on-done P F.NoDeviceSpace x r p q = q
+on-done P f x r p q = both-done (λ x _. P x) f x x r r p q
 
 -- whatever kind the record is of
 module _ {A : Type 0} (P : A → Type 0) (img : List ℕ) (n : ℕ) (r : A) (f : Head → A) (p : (k : FileType) → P (f (headAt img n k))) (q : P r) where
-  abbrev choice : Bool → Bool → Bool → Decoded
-  choice a b c = pick a (Good (headAt img n File)) (pick b (Good (headAt img n Dir)) (pick c (Good (headAt img n SymLink)) BadKind))
-
   of-head : P (ofHead (decoded img n) r f)
-  unfolding headBy
-  of-head = go (eqb (kind img n) 1) (eqb (kind img n) 2) (eqb (kind img n) 3)
-    where
-      go : (a b c : Bool) → P (ofHead (choice a b c) r f)
-      go true b c = p File
-      go false true c = p Dir
-      go false false true = p SymLink
-      go false false false = q
+  of-head = both-head (λ x _. P x) img n r r f f p q
 
   of-file : P (byFile (decoded img n) r f)
-  unfolding headBy
-  of-file = go (eqb (kind img n) 1) (eqb (kind img n) 2) (eqb (kind img n) 3)
-    where
-      go : (a b c : Bool) → P (byFile (choice a b c) r f)
-      go true b c = p File
-      go false true c = q
-      go false false true = p SymLink
-      go false false false = q
+  of-file = both-file (λ x _. P x) img n r r f f p q
 
 -- 12: "a file's new length above 4,294,967,295"
 pub judged-small : (u : ℕ) (h : Head) (len : ℕ) → filedNo (judged u h len) ≡ 0 → len ≤ longest

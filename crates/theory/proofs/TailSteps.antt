@@ -3,10 +3,8 @@
 use mathlib.Core.Path.{_≡_, refl, _∙_}
 use mathlib.Core.Bool.{Bool, true, false}
 use mathlib.Core.List.{List}
-use Prim.Native.Nat.{ℕ, _+_, _-_, _*_, _/_, _≤_, _<_, min}
+use Prim.Native.Nat.{ℕ, _+_, _-_, _*_, _≤_, _<_, min}
 use native.Mathlib.Omega.{arith}
-use native.Mathlib.Decide.{decLt}
-use borrow.Author.Tests.{lt-ltb, le-ltb}
 use lib.Dec.{ltb}
 use lib.ListN.{length, length-set}
 use Rattle.words.specs.Words.{pick, byte, word, putWord}
@@ -55,9 +53,10 @@ use Rattle.blocks.specs.Taking.{
   freeDouble,
   shrunk,
 }
-use Rattle.blocks.proofs.Picks.{pick-both, pick-yes, pick-no}
+use Rattle.blocks.proofs.Picks.{pick-both}
 use Rattle.blocks.proofs.Lengths.{length-put as length-piece}
-use Rattle.blocks.proofs.Growth.{levelRun, singleRun, partRun, twofoldTurn, twofoldRun}
+use Rattle.blocks.proofs.Growth.{seconds-up, levelRun, singleRun, partRun, twofoldTurn, twofoldRun}
+use Rattle.theory.proofs.Both.{both-below}
 
 -- out is as long as img, and has its bytes from block nb on
 pub record Tailed (nb : ℕ) (img out : List ℕ) : Type 0 where
@@ -72,20 +71,12 @@ tailed-trans t u = record { length-same = u .length-same ∙ t .length-same; pas
 
 -- one of two, where the test is known to hold for the first
 pub below-keeps : {A : Type 0} (P : A → Type 0) (a b : ℕ) (x y : A) → (a < b → P x) → P y → P (pick (ltb a b) x y)
-below-keeps P a b x y p q = go (decLt a b)
-  where
-    go : Dec (a < b) → P (pick (ltb a b) x y)
-    go (yes h) = rw (lt-ltb a b h) (p h)
-    go (no h) = rw (le-ltb a b (omega arith)) q
+below-keeps P a b x y p q = both-below (λ x _. P x) a b x x y y p q
 
 -- a pointer block lists no more than its 1,024 slots
-seconds-few : (b : ℕ) → b < 1049612 → seconds b ≤ 1024
+pub seconds-few : (b : ℕ) → b < 1049612 → seconds b ≤ 1024
 unfolding seconds
-seconds-few b h = go (decLt b 1036)
-  where
-    go : Dec (b < 1036) → seconds b ≤ 1024
-    go (yes p) = omega (arith, pick-yes b 1036 0 (1 + (b - 1036) / 1024) p)
-    go (no p) = omega (arith, pick-no b 1036 0 (1 + (b - 1036) / 1024) (omega arith))
+seconds-few b h = seconds-up b 1049611 (omega arith)
 
 module _ (nb : ℕ) (few : fewest ≤ nb) (img : List ℕ) where
   -- ---- single stores

@@ -27,11 +27,9 @@ use Rattle.creating.specs.Create.{fileKind, freshInode, madeFile, bareDir, empt
 use Rattle.linking.specs.Link.{linked}
 use Rattle.unlinking.specs.Unlink.{linksLeft, parentLess, dropped, unlinked}
 use Rattle.moving.specs.Move.{upPut, movedFile, movedDir, moved}
+use Rattle.theory.proofs.Both.{both-below, both-pick, both-turns}
 use Rattle.theory.proofs.Twins.{Twin}
 use Rattle.theory.proofs.TwinSteps.{
-  both-below,
-  both-pick,
-  both-turns,
   word-twin,
   slot-twin,
   indirect-twin,
@@ -104,7 +102,7 @@ module _ (nb : ℕ) (few : fewest ≤ nb) where
 
   -- ---- numbers and records
 
-  pub freshInode-twin : {x y : List ℕ} → Twin nb x y → freshInode nb x ≡ freshInode nb y
+  freshInode-twin : {x y : List ℕ} → Twin nb x y → freshInode nb x ≡ freshInode nb y
   freshInode-twin t = nextFree-twin nb few 0 t
 
   pub recordWith-twin : (n : ℕ) (h : Head) {x y : List ℕ} → n < nb → Twin nb x y → recordWith x n h ≡ recordWith y n h
@@ -142,16 +140,16 @@ module _ (nb : ℕ) (few : fewest ≤ nb) where
     unfolding entryAt
     twin-entryAt = read-twin (260 * k) (260 * k + 260) t n here (omega arith) (replicate 260 0)
 
-    pub twin-entryPut : (e : List ℕ) → Twin nb (entryPut nb n k e x) (entryPut nb n k e y)
+    twin-entryPut : (e : List ℕ) → Twin nb (entryPut nb n k e x) (entryPut nb n k e y)
     unfolding entryPut
     twin-entryPut e = twin-filled nb few false e (260 * k) (260 * k + 260) n here (omega arith) t
 
   module _ (n : ℕ) (here : n < nb) (d : DiskINode) (small : d .head .size ≤ longest) {x y : List ℕ} (t : Twin nb x y) where
-    pub twin-appended : (e : List ℕ) → Twin nb (appended nb n d e x) (appended nb n d e y)
+    twin-appended : (e : List ℕ) → Twin nb (appended nb n d e x) (appended nb n d e y)
     unfolding appended
     twin-appended e = twin-entryPut n here (d .head .size / 260) (omega arith) (twin-resized n here d t (d .head .size + 260) (omega arith)) e
 
-    pub twin-removed : (k : ℕ) → 260 * k ≤ longest → Twin nb (removed nb n d k x) (removed nb n d k y)
+    twin-removed : (k : ℕ) → 260 * k ≤ longest → Twin nb (removed nb n d k x) (removed nb n d k y)
     unfolding removed
     twin-removed k l =
         let last = d .head .size / 260 - 1 in

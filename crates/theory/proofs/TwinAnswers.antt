@@ -50,8 +50,9 @@ use Rattle.moving.proofs.Climbing.{up-dir}
 use Rattle.looking.specs.Look.{findAnswer, entryAnswer, noEntry, entryBytes}
 use Rattle.theory.proofs.Tests.{dirTest}
 use Rattle.theory.proofs.LookTests.{EntryTests, entry-6, entry-10, entry-done, entry-tests}
+use Rattle.theory.proofs.Both.{both-below}
 use Rattle.theory.proofs.Twins.{Twin}
-use Rattle.theory.proofs.TwinSteps.{both-below, twin-refl}
+use Rattle.theory.proofs.TwinSteps.{twin-refl}
 use Rattle.theory.proofs.TwinReads.{
   twin-sym,
   twin-super,
@@ -207,7 +208,7 @@ module _ {img out : List ℕ} (w : Whole img) (t : Twin (blocks img) img out) wh
   -- ---- move
 
   -- climbing ".." goes by entries of directories that are reached
-  pub climbs-twin : (c n b : ℕ) → Reached img n → kind img n ≡ 2 → climbs out c n b ≡ climbs img c n b
+  climbs-twin : (c n b : ℕ) → Reached img n → kind img n ≡ 2 → climbs out c n b ≡ climbs img c n b
   unfolding climbs
   climbs-twin c n zero r d = refl
   climbs-twin c n (suc b) r d =

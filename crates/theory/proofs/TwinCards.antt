@@ -1,30 +1,20 @@
 -- "Bytes past its last block are never read" (01), of the cards that the calls leave: made of two images with the same blocks, they have the same blocks
 -- again. Where a call refuses, both are as they were. Assumes nothing.
-use mathlib.Core.Path.{_≡_, refl, sym, ap, _∙_}
+use mathlib.Core.Path.{_≡_, sym, ap, _∙_}
 use mathlib.Core.Logic.{_≢_}
-use mathlib.Core.Bool.{Bool, true, false}
+use mathlib.Core.Bool.{false}
 use mathlib.Core.List.{List}
-use Prim.Native.Nat.{ℕ, _*_, _≤_, _<_}
+use Prim.Native.Nat.{ℕ, _≤_, _<_}
 use native.Mathlib.Omega.{arith}
 use native.Mathlib.Decide.{decLt}
-use lib.Dec.{eqb}
-use Rattle.words.specs.Words.{pick}
 use Rattle.layout.specs.Sizes.{fewest}
 use Rattle.layout.specs.Super.{blocks, unused}
-use Rattle.layout.specs.Inode.{size, kind, headAt, headBy, decoded}
-use Rattle.layout.specs.declared.inode.FileType.{FileType}
-use Rattle.layout.specs.declared.inode.FileType.the-variants.{File, Dir, SymLink}
+use Rattle.layout.specs.Inode.{size, headAt}
 use Rattle.layout.specs.declared.inode.Head.{Head}
-use Rattle.layout.specs.declared.inode.Decoded.{Decoded}
-use Rattle.layout.specs.declared.inode.Decoded.the-variants.{Good, BadKind}
 use Rattle.card.specs.Whole.{Reached, Whole}
-use Rattle.files.specs.Requests.{filedNo, longest, byFile, judged, onDone, recordWith, resizeCard, endOf, writeJudged, writeCard}
-use Rattle.files.specs.declared.Filed.{Filed}
-use Rattle.files.specs.declared.Filed.the-variants as F
+use Rattle.files.specs.Requests.{longest, judged, recordWith, resizeCard, endOf, writeJudged, writeCard}
 use Rattle.entries.specs.Entries.{whereIs}
-use Rattle.acts.specs.Answers.{actedNo, ifDone, ofHead, namedBy}
-use Rattle.acts.specs.declared.Acted.{Acted}
-use Rattle.acts.specs.declared.Acted.the-variants as A
+use Rattle.acts.specs.Answers.{actedNo, namedBy}
 use Rattle.acts.proofs.Ready.{below-ready, size-ready}
 use Rattle.creating.specs.Create.{createAnswer, createCard}
 use Rattle.linking.specs.Link.{linkAnswer, linkCard}
@@ -34,57 +24,12 @@ use Rattle.theory.proofs.UnlinkTests.{target, unlink-refused}
 use Rattle.theory.proofs.MoveTests.{move-tests, move-can}
 use Rattle.theory.proofs.MoveJudged.{judged as move-judged, move-refused}
 use Rattle.theory.proofs.TailCalls.{judged-small, write-small}
+use Rattle.theory.proofs.Both.{both-if, both-done, both-head, both-file}
 use Rattle.theory.proofs.Twins.{Twin}
 use Rattle.theory.proofs.TwinSteps.{twin-filled}
 use Rattle.theory.proofs.TwinActs.{twin-resized, twin-reaching, twin-made, twin-linked, twin-unlinked, twin-moved}
 use Rattle.theory.proofs.TwinReads.{decoded-twin, unused-twin, record-twin, where-twin, entry-twin}
 use Rattle.theory.proofs.TwinAnswers.{createAnswer-twin, linkAnswer-twin, unlinkAnswer-twin, moveAnswer-twin}
-
--- ---- one test on both sides
-
-both-if : {A : Type 0} (R : A → A → Type 0) (a : Acted) (x y r s : A) → R x y → R r s → R (ifDone a x r) (ifDone a y s)
-both-if R (A.Done v) x y r s p q = p
-both-if R A.NotDir x y r s p q = q
-both-if R A.IsDir x y r s p q = q
-both-if R A.BadName x y r s p q = q
-both-if R A.EntryExist x y r s p q = q
-both-if R A.EntryNotFound x y r s p q = q
-both-if R A.DirNotEmpty x y r s p q = q
-both-if R A.InvalidParam x y r s p q = q
-both-if R A.TooManyLinks x y r s p q = q
-both-if R A.NoDeviceSpace x y r s p q = q
-
-both-done : {A : Type 0} (R : A → A → Type 0) (f : Filed) (x y r s : A) → (filedNo f ≡ 0 → R x y) → R r s → R (onDone f x r) (onDone f y s)
-both-done R (F.Done v) x y r s p q = p refl
-both-done R F.NotFile x y r s p q = q
-both-done R F.InvalidParam x y r s p q = q
-both-done R F.NoDeviceSpace x y r s p q = q
-
--- whatever kind the record is of
-module _ {A : Type 0} (R : A → A → Type 0) (img : List ℕ) (n : ℕ) (r s : A) (f g : Head → A)
-    (p : (k : FileType) → R (f (headAt img n k)) (g (headAt img n k))) (q : R r s) where
-  abbrev choice : Bool → Bool → Bool → Decoded
-  choice a b c = pick a (Good (headAt img n File)) (pick b (Good (headAt img n Dir)) (pick c (Good (headAt img n SymLink)) BadKind))
-
-  both-head : R (ofHead (decoded img n) r f) (ofHead (decoded img n) s g)
-  unfolding headBy
-  both-head = go (eqb (kind img n) 1) (eqb (kind img n) 2) (eqb (kind img n) 3)
-    where
-      go : (a b c : Bool) → R (ofHead (choice a b c) r f) (ofHead (choice a b c) s g)
-      go true b c = p File
-      go false true c = p Dir
-      go false false true = p SymLink
-      go false false false = q
-
-  both-file : R (byFile (decoded img n) r f) (byFile (decoded img n) s g)
-  unfolding headBy
-  both-file = go (eqb (kind img n) 1) (eqb (kind img n) 2) (eqb (kind img n) 3)
-    where
-      go : (a b c : Bool) → R (byFile (choice a b c) r f) (byFile (choice a b c) s g)
-      go true b c = p File
-      go false true c = q
-      go false false true = p SymLink
-      go false false false = q
 
 -- ---- the cards of the calls
 
@@ -149,7 +94,7 @@ module _ {img out : List ℕ} (w : Whole img) (t : Twin (blocks img) img out) wh
         (both-head Same img n img out _ _
         (λ m.
         both-if Same (createAnswer nb img n x k) _ _ img out
-        (rw (record-twin w t n r (headAt img n m)) (twin-made nb few n here (recordWith img n (headAt img n m)) small x t k))
+        (λ _. rw (record-twin w t n r (headAt img n m)) (twin-made nb few n here (recordWith img n (headAt img n m)) small x t k))
         t)
         t)
 
@@ -162,7 +107,7 @@ module _ {img out : List ℕ} (w : Whole img) (t : Twin (blocks img) img out) wh
         both-head Same img c img out _ _
         (λ m.
         both-if Same (linkAnswer img n x c) _ _ img out
-        (rw (record-twin w t n r (headAt img n k), record-twin w t c q (headAt img c m))
+        (λ _. rw (record-twin w t n r (headAt img n k), record-twin w t c q (headAt img c m))
         (twin-linked nb few n here (recordWith img n (headAt img n k)) small x t c (recordWith img c (headAt img c m))))
         t)
         t)
@@ -185,7 +130,7 @@ module _ {img out : List ℕ} (w : Whole img) (t : Twin (blocks img) img out) wh
         both-head Same img c img out _ _
         (λ m.
         both-if Same (unlinkAnswer img n x) _ _ img out
-        (rw (record-twin w t n r (headAt img n k), record-twin w t c (g .reached) (headAt img c m))
+        (λ _. rw (record-twin w t n r (headAt img n k), record-twin w t c (g .reached) (headAt img c m))
         (twin-unlinked nb few n here (recordWith img n (headAt img n k)) small (whereIs img n x) (omega (arith, g .there, small)) c
         (below-ready img w c (g .reached))
         (recordWith img c (headAt img c m))
@@ -225,7 +170,7 @@ module _ {img out : List ℕ} (w : Whole img) (t : Twin (blocks img) img out) wh
         both-head Same img c img out _ _
         (λ f.
         both-if Same (moveAnswer nb img n old a new) _ _ img out
-        (twin-moved nb few n here (whereIs img n old) (omega (arith, g .there, small)) c (below-ready img w c (g .c-reached)) a (below-ready img w a q) new t
+        (λ _. twin-moved nb few n here (whereIs img n old) (omega (arith, g .there, small)) c (below-ready img w c (g .c-reached)) a (below-ready img w a q) new t
         (headAt img n k)
         (headAt img c f)
         (headAt img a m)

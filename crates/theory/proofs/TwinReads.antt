@@ -4,38 +4,22 @@ use mathlib.Core.Path.{_≡_, refl, sym, ap, _∙_}
 use mathlib.Core.List.{List}
 use Prim.Native.Nat.{ℕ, _+_, _*_, _≤_, _<_, min}
 use native.Mathlib.Omega.{arith}
-use lib.ListN.{length, replicate}
+use lib.ListN.{length}
 use Rattle.words.specs.Words.{pick}
-use Rattle.layout.specs.Super.{magic, blocks, unused, maps}
-use Rattle.layout.specs.Inode.{size, kind, links, count, decoded, directs}
+use Rattle.layout.specs.Sizes.{fewest}
+use Rattle.layout.specs.Super.{blocks, unused}
+use Rattle.layout.specs.Inode.{size, kind, links, count, decoded}
 use Rattle.layout.specs.declared.inode.Head.{Head}
 use Rattle.layout.specs.declared.inode.Decoded.{Decoded}
 use Rattle.layout.specs.declared.inode.Decoded.the-variants.{Good, BadKind}
 use Rattle.freemap.proofs.First.{first-cong}
-use Rattle.card.specs.View.{fileByte, fileBytes, entries, entry, name}
+use Rattle.card.specs.View.{entries, entry, name}
 use Rattle.card.specs.Whole.{Reached, Whole}
 use Rattle.card.specs.Places.{held}
 use Rattle.card.proofs.Owners.{held-below}
 use Rattle.card.proofs.Tree.{reached-listed}
-use Rattle.card.proofs.Frames.{
-  SameBlock,
-  SameRecord,
-  SameFile,
-  block-record,
-  size-is,
-  kind-is,
-  links-is,
-  count-is,
-  decoded-is,
-  directs-is,
-  entries-is,
-  fileByte-is,
-  fileBytes-is,
-  entry-is,
-  name-is,
-  file-held,
-}
-use Rattle.card.proofs.Kept.{SameSuper, super-block, magic-is, blocks-is, unused-is, maps-is, reached-to, reached-from}
+use Rattle.card.proofs.Frames.{SameBlock, SameRecord, SameFile, size-is, kind-is, links-is, count-is, decoded-is, entries-is, entry-is, name-is, file-held}
+use Rattle.card.proofs.Kept.{SameSuper, super-block, blocks-is, unused-is, reached-to, reached-from}
 use Rattle.card.proofs.Tail.{tail-free}
 use Rattle.blocks.specs.Bytes.{readInto}
 use Rattle.blocks.specs.Taking.{nextFree}
@@ -46,7 +30,7 @@ use Rattle.acts.proofs.Ready.{inode-ready, below-ready, size-ready}
 use Rattle.acts.proofs.Heads.{head-is}
 use Rattle.theory.proofs.Twins.{Twin}
 use Rattle.theory.proofs.TwinSteps.{nextFree-twin}
-use Rattle.theory.proofs.TwinActs.{read-twin}
+use Rattle.theory.proofs.TwinActs.{read-twin, recordWith-twin, twin-entryAt}
 
 -- ---- on any bytes
 
@@ -54,11 +38,8 @@ module _ {nb : ℕ} {img out : List ℕ} (t : Twin nb img out) where
   pub twin-sym : Twin nb out img
   twin-sym = record { length-same = sym (t .length-same); room = omega (arith, t .room, t .length-same); below = λ j l. sym (t .below j l) }
 
-  pub twin-block : (b : ℕ) → b < nb → SameBlock img out b
+  twin-block : (b : ℕ) → b < nb → SameBlock img out b
   twin-block b l = record { bytes = λ k h. t .below (4096 * b + k) (omega arith) }
-
-  pub twin-record : (n : ℕ) → n < nb → SameRecord img out n
-  twin-record n l = block-record (twin-block n l)
 
   pub twin-super : 0 < nb → SameSuper img out
   twin-super l = super-block (twin-block 0 l)
@@ -66,11 +47,11 @@ module _ {nb : ℕ} {img out : List ℕ} (t : Twin nb img out) where
 -- ---- on a whole card
 
 module _ {img out : List ℕ} (w : Whole img) (t : Twin (blocks img) img out) where
-  same-super : SameSuper img out
-  same-super = twin-super t (omega (arith, w .sound .sized .few))
+  few : fewest ≤ blocks img
+  few = w .sound .sized .few
 
-  pub magic-twin : magic out ≡ magic img
-  magic-twin = magic-is same-super
+  same-super : SameSuper img out
+  same-super = twin-super t (omega (arith, few))
 
   pub blocks-twin : blocks out ≡ blocks img
   blocks-twin = blocks-is same-super
@@ -78,16 +59,13 @@ module _ {img out : List ℕ} (w : Whole img) (t : Twin (blocks img) img out) wh
   pub unused-twin : unused out ≡ unused img
   unused-twin = unused-is same-super
 
-  pub maps-twin : maps out ≡ maps img
-  maps-twin = maps-is same-super
-
   pub next-twin : nextFree (blocks img) out 0 ≡ nextFree (blocks img) img 0
-  next-twin = sym (nextFree-twin (blocks img) (w .sound .sized .few) 0 t)
+  next-twin = sym (nextFree-twin (blocks img) few 0 t)
 
   pub whole-twin : Whole out
   whole-twin = tail-free w (t .length-same) (t .below)
 
-  pub file-twin : (n : ℕ) → Reached img n → SameFile img out n
+  file-twin : (n : ℕ) → Reached img n → SameFile img out n
   file-twin n r =
       file-held img out n (λ p u. twin-block t (held img n p) (held-below img (w .inodes) (w .sound) n p (reached-listed img w n r) u))
 
@@ -123,38 +101,28 @@ module _ {img out : List ℕ} (w : Whole img) (t : Twin (blocks img) img out) wh
     pub decoded-twin : decoded out n ≡ decoded img n
     decoded-twin = decoded-is same-record
 
-    pub directs-twin : directs out n ≡ directs img n
-    directs-twin = directs-is same-record
-
     pub record-twin : (h : Head) → recordWith out n h ≡ recordWith img n h
-    record-twin h = rw directs-twin
+    record-twin h = sym (recordWith-twin (blocks img) few n h (below-ready img w n r) t)
 
     pub entries-twin : entries out n ≡ entries img n
     entries-twin = entries-is same-record
 
     -- ---- its bytes
 
-    pub fileByte-twin : (o : ℕ) → o < 4096 * count img n → fileByte out n o ≡ fileByte img n o
-    fileByte-twin = fileByte-is (file-twin n r)
-
-    pub fileBytes-twin : (o k : ℕ) → o + k ≤ 4096 * count img n → fileBytes out n o k ≡ fileBytes img n o k
-    fileBytes-twin = fileBytes-is (file-twin n r)
-
-    pub readInto-twin : (off end : ℕ) → end ≤ size img n → (buf : List ℕ) → readInto out (blocks img) n off end buf ≡ readInto img (blocks img) n off end buf
+    readInto-twin : (off end : ℕ) → end ≤ size img n → (buf : List ℕ) → readInto out (blocks img) n off end buf ≡ readInto img (blocks img) n off end buf
     readInto-twin off end l buf =
-        sym (read-twin (blocks img) (w .sound .sized .few) off end t n (below-ready img w n r) (omega (arith, size-ready img w n r)) buf)
+        sym (read-twin (blocks img) few off end t n (below-ready img w n r) (omega (arith, size-ready img w n r)) buf)
 
     -- ---- its entries
 
     pub entry-twin : (k : ℕ) → k < entries img n → entry out n k ≡ entry img n k
     entry-twin = entry-is (file-twin n r) (inode-ready img w n r)
 
-    pub name-twin : (k : ℕ) → k < entries img n → name out n k ≡ name img n k
+    name-twin : (k : ℕ) → k < entries img n → name out n k ≡ name img n k
     name-twin = name-is (file-twin n r) (inode-ready img w n r)
 
     pub entryAt-twin : (k : ℕ) → k < entries img n → entryAt (blocks img) out n k ≡ entryAt (blocks img) img n k
-    unfolding entryAt
-    entryAt-twin k l = readInto-twin (260 * k) (260 * k + 260) (omega arith) (replicate 260 0)
+    entryAt-twin k l = sym (twin-entryAt (blocks img) few n (below-ready img w n r) k (omega (arith, size-ready img w n r)) t)
 
     -- where a name is goes by the names of the entries; where none has it, it is the number of entries
     pub where-twin : (x : List ℕ) → whereIs out n x ≡ whereIs img n x

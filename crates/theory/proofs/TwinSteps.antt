@@ -7,17 +7,15 @@ use mathlib.Core.List.{List, [], _∷_}
 use Prim.Native.Nat.{ℕ, zero, suc, _+_, _-_, _*_, _/_, _%_, _≤_, _<_, min}
 use native.Mathlib.Omega.{arith}
 use native.Mathlib.Decide.{decLt, ℕ-discrete}
-use borrow.Author.Tests.{lt-ltb, le-ltb}
 use lib.Dec.{ltb}
 use lib.ListN.{length, set, length-set}
 use lib.Seq.{getD-set-same, getD-set-other, set-out}
 use Rattle.words.specs.Words.{pick, byte, num, word, putNum, putWord}
-use Rattle.words.specs.Runs.{puts, copied, zeroed, turns}
+use Rattle.words.specs.Runs.{puts, copied, zeroed}
 use Rattle.words.proofs.Numbers.{num-frame}
 use Rattle.layout.specs.Sizes.{fewest}
 use Rattle.layout.specs.Super.{unused}
 use Rattle.layout.specs.Inode.{indirect, double, directs, putWords, encoded, putFront, putBack, withDirect, withIndirect, withDouble}
-use Rattle.layout.specs.Slots.{seconds}
 use Rattle.layout.specs.declared.inode.DiskINode.{DiskINode}
 use Rattle.layout.proofs.Words.{words-frame}
 use Rattle.freemap.specs.Bits.{mapByte, mapBit, clearBit, setBit}
@@ -58,33 +56,10 @@ use Rattle.blocks.specs.Taking.{
   freeDouble,
   shrunk,
 }
-use Rattle.blocks.proofs.Growth.{seconds-up, partRun, twofoldTurn}
+use Rattle.blocks.proofs.Growth.{partRun, twofoldTurn}
+use Rattle.theory.proofs.Both.{both-below, both-pick, both-turns}
 use Rattle.theory.proofs.Twins.{Twin}
-
--- ---- the same test, and the same loop, on both
-
--- one of two, where the test is known to hold for the first
-pub both-below : {A : Type 0} (R : A → A → Type 0) (a b : ℕ) (x y x′ y′ : A) → (a < b → R x y) → R x′ y′ → R (pick (ltb a b) x x′) (pick (ltb a b) y y′)
-both-below R a b x y x′ y′ p q = go (decLt a b)
-  where
-    go : Dec (a < b) → R (pick (ltb a b) x x′) (pick (ltb a b) y y′)
-    go (yes h) = rw (lt-ltb a b h) (p h)
-    go (no h) = rw (le-ltb a b (omega arith)) q
-
-pub both-pick : {A : Type 0} (R : A → A → Type 0) (t : Bool) (x y x′ y′ : A) → R x y → R x′ y′ → R (pick t x x′) (pick t y y′)
-both-pick R true x y x′ y′ p q = p
-both-pick R false x y x′ y′ p q = q
-
-pub both-turns : {A : Type 0} (R : A → A → Type 0) (f g : ℕ → A → A) (i : ℕ) (x y : A) → R x y → (k : ℕ)
-    → ((j : ℕ) (u v : A) → j < k → R u v → R (f (i + j) u) (g (i + j) v)) → R (turns f i k x) (turns g i k y)
-unfolding turns
-both-turns R f g i x y r zero h = r
-both-turns R f g i x y r (suc k) h = h k _ _ (omega arith) (both-turns R f g i x y r k (λ j u v l q. h j u v (omega arith) q))
-
--- a pointer block lists no more than its 1,024 slots
-slots-few : (b : ℕ) → b < 1049612 → seconds b ≤ 1024
-unfolding seconds
-slots-few b h = seconds-up b 1049611 (omega arith)
+use Rattle.theory.proofs.TailSteps.{seconds-few}
 
 pub twin-refl : (nb : ℕ) (x : List ℕ) → 4096 * nb ≤ length x → Twin nb x x
 twin-refl nb x l = record { length-same = refl; room = l; below = λ j a. refl }
@@ -110,7 +85,7 @@ module _ {nb : ℕ} where
   twin-num zero at v t = t
   twin-num (suc n) at v t = twin-num n (at + 1) (v / 256) (twin-set at (v % 256) t)
 
-  pub twin-putWord : (at v : ℕ) {x y : List ℕ} → Twin nb x y → Twin nb (putWord x at v) (putWord y at v)
+  twin-putWord : (at v : ℕ) {x y : List ℕ} → Twin nb x y → Twin nb (putWord x at v) (putWord y at v)
   twin-putWord at v t = twin-num 4 at v t
 
   twin-putWords : (at : ℕ) (ws : List ℕ) {x y : List ℕ} → Twin nb x y → Twin nb (putWords x at ws) (putWords y at ws)
@@ -137,7 +112,7 @@ module _ {nb : ℕ} where
 module _ (nb : ℕ) (few : fewest ≤ nb) where
   -- ---- reads, of the blocks
 
-  pub num-twin : (n at : ℕ) {x y : List ℕ} → at + n ≤ 4096 * nb → Twin nb x y → num n x at ≡ num n y at
+  num-twin : (n at : ℕ) {x y : List ℕ} → at + n ≤ 4096 * nb → Twin nb x y → num n x at ≡ num n y at
   num-twin n at {x} {y} l t = num-frame n x y at (λ k p q. sym (t .below k (omega arith)))
 
   pub word-twin : (at : ℕ) {x y : List ℕ} → at + 4 ≤ 4096 * nb → Twin nb x y → word x at ≡ word y at
@@ -166,7 +141,7 @@ module _ (nb : ℕ) (few : fewest ≤ nb) where
   bit-twin : (b : ℕ) {x y : List ℕ} → b < nb → Twin nb x y → mapBit x b ≡ mapBit y b
   bit-twin b {x} {y} l t = bit-is y x b (sym (mapByte-twin b l t))
 
-  pub lowest-twin : (i : ℕ) {x y : List ℕ} → Twin nb x y → lowest x i nb ≡ lowest y i nb
+  lowest-twin : (i : ℕ) {x y : List ℕ} → Twin nb x y → lowest x i nb ≡ lowest y i nb
   lowest-twin i {x} {y} t = lowest-cong y x i nb (λ k p l. bit-twin k l t)
 
   pub nextFree-twin : (i : ℕ) {x y : List ℕ} → Twin nb x y → nextFree nb x i ≡ nextFree nb y i
@@ -233,7 +208,7 @@ module _ (nb : ℕ) (few : fewest ≤ nb) where
     twin-freeLevel : a < 1049612 → Twin nb (freeLevel nb d b a x) (freeLevel nb d b a y)
     unfolding freeLevel
     twin-freeLevel h =
-        both-below (Twin nb) (d .head .«db_indirect») nb _ _ x y (λ l. twin-freeRun _ _ (λ p. omega (arith, slots-few a h)) t) t
+        both-below (Twin nb) (d .head .«db_indirect») nb _ _ x y (λ l. twin-freeRun _ _ (λ p. omega (arith, seconds-few a h)) t) t
 
     twin-freeDouble : Twin nb (freeDouble nb d b a x) (freeDouble nb d b a y)
     unfolding freeDouble
