@@ -11,20 +11,20 @@ use lib.Dec.{ltb}
 use Rattle.words.specs.Words.{pick}
 use Rattle.words.specs.Sums.{cnt}
 use Rattle.layout.specs.Super.{blocks, unused}
-use Rattle.layout.specs.Inode.{kind, links, headAt, decoded}
+use Rattle.layout.specs.Inode.{kind, links, headAt}
 use Rattle.layout.specs.Entry.{Name}
 use Rattle.layout.specs.declared.inode.FileType.the-variants.{Dir}
 use Rattle.layout.specs.declared.inode.Head.{Head}
 use Rattle.freemap.specs.Free.{lowest}
 use Rattle.card.specs.View.{entries, name}
 use Rattle.card.specs.Whole.{Sound}
-use Rattle.files.specs.Requests.{recordWith}
-use Rattle.acts.specs.Answers.{actedNo, ifDone, fullLinks}
-use Rattle.creating.specs.Create.{knownKind, freshInode, createTakes, createRoom, createAnswer, made, createCard}
+use Rattle.acts.specs.Answers.{actedNo, fullLinks}
+use Rattle.creating.specs.Create.{knownKind, freshInode, createTakes, createRoom, createAnswer, createCard}
 use Rattle.acts.specs.declared.Acted.{Acted}
 use Rattle.acts.specs.declared.Acted.the-variants.{Done, NotDir, BadName, EntryExist, InvalidParam, TooManyLinks, NoDeviceSpace}
 use Rattle.theory.proofs.NameTests.{CanName, NameTests, not-dir, bad-name, exists, can, nameTests, name-tests, name-exact}
-use Rattle.theory.proofs.Tests.{not-done, head-same}
+use Rattle.creating.proofs.CreateLaws.{create-refused as by-tag}
+use Rattle.theory.proofs.Tests.{refused-is}
 use Rattle.theory.proofs.NewInode.{next-lowest}
 
 -- 1, 2 and 3 are kinds
@@ -161,7 +161,4 @@ create-can (create-done c e) z = (c, e)
 -- ---- the card
 
 pub create-refused : (nb : ℕ) (img : List ℕ) (p : ℕ) (x : List ℕ) (k : ℕ) → actedNo (createAnswer nb img p x k) ≢ 0 → createCard nb img p x k ≡ img
-unfolding createCard
-create-refused nb img p x k d =
-    head-same (decoded img p) img (λ h. ifDone (createAnswer nb img p x k) (made nb p (recordWith img p h) x k img) img)
-    (λ h. not-done (createAnswer nb img p x k) d (made nb p (recordWith img p h) x k img) img)
+create-refused nb img p x k d = by-tag nb img p x k (refused-is (createAnswer nb img p x k) d)

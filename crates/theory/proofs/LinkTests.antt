@@ -15,14 +15,15 @@ use Rattle.layout.specs.declared.inode.FileType.the-variants.{File, Dir, SymLin
 use Rattle.layout.specs.declared.inode.Head.{Head}
 use Rattle.card.specs.View.{entries, name}
 use Rattle.card.specs.Whole.{Sound}
-use Rattle.files.specs.Requests.{needs, recordWith}
-use Rattle.acts.specs.Answers.{actedNo, ifDone, ofHead, fullLinks}
-use Rattle.linking.specs.Link.{linkRoom, linkAnswer, linked, linkCard}
+use Rattle.files.specs.Requests.{needs}
+use Rattle.acts.specs.Answers.{actedNo, ofHead, fullLinks}
+use Rattle.linking.specs.Link.{linkRoom, linkAnswer, linkCard}
 use Rattle.acts.specs.declared.Acted.{Acted}
 use Rattle.acts.specs.declared.Acted.the-variants.{Done, NotDir, IsDir, BadName, EntryExist, TooManyLinks, NoDeviceSpace}
 use Rattle.theory.proofs.Requests.{OfKind, of-kind, kinds, Filelike, filelike, filelike-not}
 use Rattle.theory.proofs.NameTests.{CanName, NameTests, not-dir, bad-name, exists, can, nameTests, name-tests, name-exact}
-use Rattle.theory.proofs.Tests.{dir-not, not-done, head-same}
+use Rattle.linking.proofs.LinkLaws.{link-refused as by-tag}
+use Rattle.theory.proofs.Tests.{dir-not, refused-is}
 
 -- what 7, 13 and 14 do not refuse: c is no directory and has a link to spare
 pub record CanLink (img : List ℕ) (p : ℕ) (x : List ℕ) (c : ℕ) : Type 0 where
@@ -122,10 +123,4 @@ link-can (link-done c e) z = (c, e)
 -- ---- the card
 
 pub link-refused : (nb : ℕ) (img : List ℕ) (p : ℕ) (x : List ℕ) (c : ℕ) → actedNo (linkAnswer img p x c) ≢ 0 → linkCard nb img p x c ≡ img
-unfolding linkCard
-link-refused nb img p x c d =
-    head-same (decoded img p) img
-    (λ h. ofHead (decoded img c) img (λ g. ifDone (linkAnswer img p x c) (linked nb p (recordWith img p h) x c (recordWith img c g) img) img))
-    (λ h.
-    head-same (decoded img c) img (λ g. ifDone (linkAnswer img p x c) (linked nb p (recordWith img p h) x c (recordWith img c g) img) img)
-    (λ g. not-done (linkAnswer img p x c) d (linked nb p (recordWith img p h) x c (recordWith img c g) img) img))
+link-refused nb img p x c d = by-tag img p x c nb (refused-is (linkAnswer img p x c) d)

@@ -7,7 +7,7 @@ use native.Mathlib.Omega.{arith}
 use borrow.Author.Tests.{eq-eqb, ne-eqb}
 use Rattle.words.specs.Words.{pick}
 use Rattle.layout.specs.Super.{blocks}
-use Rattle.layout.specs.Inode.{kind, links, kindNo, headAt, decoded}
+use Rattle.layout.specs.Inode.{kind, links, kindNo, headAt}
 use Rattle.layout.specs.Entry.{Name, entryOf}
 use Rattle.layout.specs.declared.inode.FileType.{FileType}
 use Rattle.layout.specs.declared.inode.FileType.the-variants.{File, Dir, SymLink}
@@ -20,7 +20,8 @@ use Rattle.acts.specs.Answers.{actedNo, isDir, namedBy}
 use Rattle.moving.specs.Move.{moveAnswer, upPut, movedFile, movedDir, moved, moveCard}
 use Rattle.acts.specs.declared.Acted.the-variants.{Done}
 use Rattle.theory.proofs.Requests.{OfKind, of-kind, kinds, Filelike, filelike}
-use Rattle.theory.proofs.Tests.{whole-inode, not-done, head-same}
+use Rattle.moving.proofs.MoveLaws.{move-refused as by-tag}
+use Rattle.theory.proofs.Tests.{whole-inode, refused-is}
 use Rattle.theory.proofs.NameTests.{can-where}
 use Rattle.theory.proofs.UnlinkTests.{HasName, has-where, has-past, has-child}
 use Rattle.theory.proofs.MoveTests.{CanMove, Roomy, move-tests, move-can}
@@ -30,12 +31,7 @@ use Rattle.theory.proofs.MoveCarry.{carriedOut}
 
 pub move-refused : (nb : ℕ) (img : List ℕ) (p : ℕ) (old : List ℕ) (t : ℕ) (new : List ℕ) → actedNo (moveAnswer nb img p old t new) ≢ 0
     → moveCard nb img p old t new ≡ img
-unfolding moveCard
-move-refused nb img p old t new d =
-    head-same (decoded img p) img _
-    (λ s.
-    head-same (decoded img t) img _
-    (λ h. head-same (decoded img (namedBy img p old)) img _ (λ g. not-done (moveAnswer nb img p old t new) d _ img)))
+move-refused nb img p old t new d = by-tag nb img p old t new (refused-is (moveAnswer nb img p old t new) d)
 
 -- ---- done: what the tests say
 

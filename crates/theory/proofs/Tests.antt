@@ -2,7 +2,8 @@
 -- nothing.
 use mathlib.Core.Path.{_≡_, refl, sym, _∙_}
 use mathlib.Core.Bool.{true, false}
-use mathlib.Core.List.{List}
+use mathlib.Core.List.{List, [], _∷_}
+use types.Run.{hit}
 use mathlib.Core.Logic.{_≢_}
 use Prim.Native.Nat.{ℕ, _<_}
 use native.Mathlib.Omega.{arith}
@@ -13,8 +14,6 @@ use Rattle.layout.specs.Inode.{kind, kindNo, headAt, decoded}
 use Rattle.layout.specs.declared.inode.FileType.{FileType}
 use Rattle.layout.specs.declared.inode.FileType.the-variants.{File, Dir, SymLink}
 use Rattle.layout.specs.declared.inode.Head.{Head}
-use Rattle.layout.specs.declared.inode.Decoded.{Decoded}
-use Rattle.layout.specs.declared.inode.Decoded.the-variants.{Good, BadKind}
 use Rattle.card.specs.View.{entries, name}
 use Rattle.card.specs.Whole.{Reached, Inode, Whole}
 use Rattle.card.proofs.Tree.{reached-listed}
@@ -34,6 +33,7 @@ use Rattle.acts.specs.declared.Acted.the-variants.{
   TooManyLinks,
   NoDeviceSpace,
 }
+use Rattle.acts.proofs.Refused.{Refused, if-refused}
 use Rattle.theory.proofs.Requests.{OfKind, kinds}
 
 -- ---- kinds
@@ -89,21 +89,22 @@ module _ (img : List ℕ) (p : ℕ) (x : List ℕ) where
   pub unmet : ((j : ℕ) → j < entries img p → name img p j ≢ x) → ltb (whereIs img p x) (entries img p) ≡ false
   unmet n = le-ltb (whereIs img p x) (entries img p) (omega (arith, where-none img p x n))
 
--- ---- a refusal
+-- ---- a refusal, by its number
+
+abbrev refusals : List ℕ
+refusals = 1 ∷ 2 ∷ 3 ∷ 4 ∷ 5 ∷ 6 ∷ 7 ∷ 8 ∷ 9 ∷ []
+
+pub refused-is : (a : Acted) → actedNo a ≢ 0 → Refused a
+refused-is (Done v) d = absurd (d refl)
+refused-is NotDir d = hit refusals 1 tt
+refused-is IsDir d = hit refusals 2 tt
+refused-is BadName d = hit refusals 3 tt
+refused-is EntryExist d = hit refusals 4 tt
+refused-is EntryNotFound d = hit refusals 5 tt
+refused-is DirNotEmpty d = hit refusals 6 tt
+refused-is InvalidParam d = hit refusals 7 tt
+refused-is TooManyLinks d = hit refusals 8 tt
+refused-is NoDeviceSpace d = hit refusals 9 tt
 
 pub not-done : {A : Type 0} (a : Acted) → actedNo a ≢ 0 → (x r : A) → ifDone a x r ≡ r
-not-done (Done v) d x r = absurd (d refl)
-not-done NotDir d x r = refl
-not-done IsDir d x r = refl
-not-done BadName d x r = refl
-not-done EntryExist d x r = refl
-not-done EntryNotFound d x r = refl
-not-done DirNotEmpty d x r = refl
-not-done InvalidParam d x r = refl
-not-done TooManyLinks d x r = refl
-not-done NoDeviceSpace d x r = refl
-
--- whatever is decoded
-pub head-same : {A : Type 0} (d : Decoded) (r : A) (f : Head → A) → ((h : Head) → f h ≡ r) → ofHead d r f ≡ r
-head-same BadKind r f e = refl
-head-same (Good h) r f e = e h
+not-done a d x r = if-refused a x r (refused-is a d)

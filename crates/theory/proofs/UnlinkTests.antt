@@ -24,7 +24,8 @@ use Rattle.unlinking.specs.Unlink.{notEmpty, unlinkAnswer, unlinkCard}
 use Rattle.acts.specs.declared.Acted.{Acted}
 use Rattle.acts.specs.declared.Acted.the-variants.{Done, NotDir, IsDir, EntryNotFound, DirNotEmpty}
 use Rattle.theory.proofs.Requests.{OfKind, of-kind, kinds}
-use Rattle.theory.proofs.Tests.{whole-inode, DirTest, other, dir, dirTest, dir-test, dir-exact, met, unmet, not-done, head-same}
+use Rattle.unlinking.proofs.UnlinkLaws.{unlink-refused as by-tag}
+use Rattle.theory.proofs.Tests.{whole-inode, DirTest, other, dir, dirTest, dir-test, dir-exact, met, unmet, refused-is}
 
 -- ---- a name to be unlinked or moved
 
@@ -167,6 +168,4 @@ module _ {img : List ℕ} (w : Whole img) (p : ℕ) (r : Reached img p) (x : Lis
 -- ---- a refusal changes nothing
 
 pub unlink-refused : (nb : ℕ) (img : List ℕ) (p : ℕ) (x : List ℕ) → actedNo (unlinkAnswer img p x) ≢ 0 → unlinkCard nb img p x ≡ img
-unfolding unlinkCard
-unlink-refused nb img p x d =
-    head-same (decoded img p) img _ (λ h. head-same (decoded img (namedBy img p x)) img _ (λ g. not-done (unlinkAnswer img p x) d _ img))
+unlink-refused nb img p x d = by-tag img p x nb (refused-is (unlinkAnswer img p x) d)
