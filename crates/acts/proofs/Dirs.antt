@@ -15,7 +15,7 @@ use Rattle.card.specs.Whole.{Reached, Whole}
 use Rattle.entries.specs.Entries.{whereIs}
 use Rattle.acts.specs.Answers.{isDir, namedBy}
 use Rattle.acts.proofs.Ready.{size-ready, entries-inside, dir-ready, entry-reached}
-use Rattle.acts.proofs.Heads.{HeadIs, head-is}
+use Rattle.acts.proofs.Heads.{head-is}
 
 no-true : false ≡ true → ⊥
 no-true e = let z : _≡_ {A = ℕ} 0 1 = ap (λ (b : Bool). pick b 1 0) e in omega arith
@@ -29,8 +29,8 @@ pub dir-kind : (img : List ℕ) (n : ℕ) (h : Head) → decoded img n ≡ Good 
 dir-kind img n h q d = sym (head-is img n h q .kind-is) ∙ dir-no (h .«type_») d
 
 module _ (img : List ℕ) (w : Whole img) (n : ℕ) (r : Reached img n) where
-  pub dir-least : (h : Head) → decoded img n ≡ Good h → isDir (h .«type_») ≡ true → 260 ≤ h .size
-  dir-least h q d = omega (arith, head-is img n h q .size-is, dir-ready img w n r (dir-kind img n h q d) .least)
+  pub dir-least : (h : Head) → decoded img n ≡ Good h → kind img n ≡ 2 → 260 ≤ h .size
+  dir-least h q d = omega (arith, head-is img n h q .size-is, dir-ready img w n r d .least)
 
   -- entry k, one of its entries
   module _ (k : ℕ) (l : k < entries img n) where

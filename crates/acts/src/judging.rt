@@ -8,7 +8,7 @@ ghost use Rattle.layout.specs.declared.inode.Decoded.the-variants.{Good, BadKin
 ghost use Rattle.card.specs.Whole.{Reached, Whole};
 ghost use Rattle.files.specs.Requests.{needs};
 ghost use Rattle.entries.specs.Entries.{whereIs};
-ghost use Rattle.acts.specs.Answers.{actedNo, actedValue, isDir, ofHead};
+ghost use Rattle.acts.specs.Answers.{actedNo, actedValue, placed, isDir, ofHead};
 use crate::Acted;
 use entries::finding;
 use files::resizing;
@@ -52,6 +52,17 @@ pub fn value_of(r: Acted) -> u32
         Acted::TooManyLinks => 0,
         Acted::NoDeviceSpace => 0,
     }
+}
+
+// The answer j, with place k for the act where nothing is refused.
+pub fn with_place(j: Acted, k: usize) -> Acted
+    requires { ⌜ k ≤ 4294967295 ⌝ }
+    ensures { λ r. ⌜ r ≡ placed j k ⌝ }
+{
+    let Acted::Done(_) = j else {
+        return j;
+    };
+    Acted::Done(k as u32)
 }
 
 pub fn is_dir(kind: FileType) -> bool

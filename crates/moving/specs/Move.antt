@@ -84,11 +84,13 @@ moved nb p s k c g t h new img =
     (movedDir nb p (recordWith img p s) k c t (recordWith img t h) new img)
     (movedFile nb p (recordWith img p s) k c t (recordWith img t h) new img))
 
-unfoldable pub moveCard : ℕ → List ℕ → ℕ → List ℕ → ℕ → List ℕ → List ℕ
-moveCard nb img p old t new =
+-- entry k of p becomes `new` in t
+unfoldable pub movedAt : ℕ → List ℕ → ℕ → ℕ → ℕ → List ℕ → List ℕ
+movedAt nb img p k t new =
     ofHead (decoded img p) img
     (λ s.
     ofHead (decoded img t) img
-    (λ h.
-    ofHead (decoded img (namedBy img p old)) img
-    (λ g. ifDone (moveAnswer nb img p old t new) (moved nb p s (whereIs img p old) (namedBy img p old) g t h new img) img)))
+    (λ h. ofHead (decoded img (entry img p k)) img (λ g. moved nb p s k (entry img p k) g t h new img)))
+
+unfoldable pub moveCard : ℕ → List ℕ → ℕ → List ℕ → ℕ → List ℕ → List ℕ
+moveCard nb img p old t new = ifDone (moveAnswer nb img p old t new) (movedAt nb img p (whereIs img p old) t new) img

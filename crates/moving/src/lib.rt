@@ -6,7 +6,7 @@ ghost use lib.Dec.{eqb, ltb};
 ghost use lib.ListN.{length};
 ghost use Rattle.words.specs.Words.{pick};
 ghost use Rattle.layout.specs.Super.{blocks, unused};
-ghost use Rattle.layout.specs.Inode.{kind, decoded};
+ghost use Rattle.layout.specs.Inode.{kind, links, decoded};
 ghost use Rattle.layout.specs.declared.inode.Decoded.the-variants.{Good};
 ghost use Rattle.card.specs.View.{entries, entry};
 ghost use Rattle.card.specs.Whole.{Reached, Whole};
@@ -14,8 +14,8 @@ ghost use Rattle.blocks.specs.Shape.{Sizes};
 ghost use Rattle.files.specs.Requests.{needs, recordWith};
 ghost use Rattle.entries.specs.Entries.{whereIs};
 ghost use Rattle.entries.specs.Names.{isDots};
-ghost use Rattle.acts.specs.Answers.{actedNo, isDir, ofHead, fullLinks, namedBy};
-ghost use Rattle.moving.specs.Move.{climbs, moveRoom, moveAnswer, upPut, movedFile, movedDir, moved, moveCard};
+ghost use Rattle.acts.specs.Answers.{placed, isDir, ofHead, fullLinks, namedBy};
+ghost use Rattle.moving.specs.Move.{climbs, moveRoom, moveAnswer, upPut, movedFile, movedDir, moved, movedAt, moveCard};
 ghost use Rattle.acts.specs.declared.Acted.the-variants.{Done, EntryNotFound, InvalidParam, TooManyLinks, NoDeviceSpace};
 use acts::Acted;
 use acts::judging;
@@ -103,7 +103,7 @@ fn judge_child(image: &[u8], nb: u32, p: INodeId, k: usize, t: INodeId, h: Head)
     }
 }
 
-// 10, 12, 13 and 14: s is the head of p, h that of t.
+// 10, 12, 13 and 14, and the place of the entry: s is the head of p, h that of t.
 fn judge_source(
     image: &[u8],
     nb: u32,
@@ -114,19 +114,19 @@ fn judge_source(
     h: Head,
 ) -> Acted
     requires { ⌜ Whole (now image) × Reached (now image) (p .0) × Reached (now image) (t .0) × (decoded (now image) (p .0) ≡ Good s) × (isDir (s .«type_») ≡ true) × (decoded (now image) (t .0) ≡ Good h) × (isDir (h .«type_») ≡ true) ⌝ }
-    ensures { λ r. ⌜ r ≡ pick (ltb (whereIs (now (image .entry)) (p .0) (now (old .entry))) (entries (now (image .entry)) (p .0))) (pick (eqb (p .0) (t .0)) (Done 0) (ofHead (decoded (now (image .entry)) (namedBy (now (image .entry)) (p .0) (now (old .entry)))) EntryNotFound (λ g. moveRoom nb (now (image .entry)) (namedBy (now (image .entry)) (p .0) (now (old .entry))) g (t .0) h))) EntryNotFound ⌝ }
+    ensures { λ r. ⌜ r ≡ placed (pick (ltb (whereIs (now (image .entry)) (p .0) (now (old .entry))) (entries (now (image .entry)) (p .0))) (pick (eqb (p .0) (t .0)) (Done 0) (ofHead (decoded (now (image .entry)) (namedBy (now (image .entry)) (p .0) (now (old .entry)))) EntryNotFound (λ g. moveRoom nb (now (image .entry)) (namedBy (now (image .entry)) (p .0) (now (old .entry))) g (t .0) h))) EntryNotFound) (whereIs (now (image .entry)) (p .0) (now (old .entry))) ⌝ }
 {
     let k = judging::is_there(image, p, s, old);
     if k >= s.size as usize / 260 {
         return Acted::EntryNotFound;
     }
     if p.0 == t.0 {
-        return Acted::Done(0);
+        return Acted::Done(k as u32);
     }
-    judge_child(image, nb, p, k, t, h)
+    judging::with_place(judge_child(image, nb, p, k, t, h), k)
 }
 
-// 8, 9, 10, 12, 13 and 14: s is the head of p, h that of t.
+// 8, 9, 10, 12, 13 and 14, and the place of the entry: s is the head of p, h that of t.
 fn judge_in(
     image: &[u8],
     nb: u32,
@@ -138,7 +138,7 @@ fn judge_in(
     new: &[u8],
 ) -> Acted
     requires { ⌜ Whole (now image) × Reached (now image) (p .0) × Reached (now image) (t .0) × (decoded (now image) (p .0) ≡ Good s) × (isDir (s .«type_») ≡ true) × (decoded (now image) (t .0) ≡ Good h) × (isDir (h .«type_») ≡ true) × (isDots (now old) ≡ false) ⌝ }
-    ensures { λ r. ⌜ r ≡ moveAnswer nb (now (image .entry)) (p .0) (now (old .entry)) (t .0) (now (new .entry)) ⌝ }
+    ensures { λ r. ⌜ r ≡ placed (moveAnswer nb (now (image .entry)) (p .0) (now (old .entry)) (t .0) (now (new .entry))) (whereIs (now (image .entry)) (p .0) (now (old .entry))) ⌝ }
 {
     if !finding::storable_name(new) {
         return Acted::BadName;
@@ -160,7 +160,7 @@ fn judge_target(
     new: &[u8],
 ) -> Acted
     requires { ⌜ Whole (now image) × Reached (now image) (p .0) × Reached (now image) (t .0) × (decoded (now image) (p .0) ≡ Good s) × (isDir (s .«type_») ≡ true) ⌝ }
-    ensures { λ r. ⌜ r ≡ moveAnswer nb (now (image .entry)) (p .0) (now (old .entry)) (t .0) (now (new .entry)) ⌝ }
+    ensures { λ r. ⌜ r ≡ placed (moveAnswer nb (now (image .entry)) (p .0) (now (old .entry)) (t .0) (now (new .entry))) (whereIs (now (image .entry)) (p .0) (now (old .entry))) ⌝ }
 {
     if finding::is_dots(old) {
         return Acted::IsDir;
@@ -171,10 +171,10 @@ fn judge_target(
     }
 }
 
-// What move answers. Nothing changes.
-pub fn judge_move(image: &[u8], nb: u32, p: INodeId, old: &[u8], t: INodeId, new: &[u8]) -> Acted
+// What move answers, and the place of the entry, which is looked up once. Nothing changes.
+fn judge_move(image: &[u8], nb: u32, p: INodeId, old: &[u8], t: INodeId, new: &[u8]) -> Acted
     requires { ⌜ Whole (now image) × Reached (now image) (p .0) × Reached (now image) (t .0) ⌝ }
-    ensures { λ r. ⌜ r ≡ moveAnswer nb (now (image .entry)) (p .0) (now (old .entry)) (t .0) (now (new .entry)) ⌝ }
+    ensures { λ r. ⌜ r ≡ placed (moveAnswer nb (now (image .entry)) (p .0) (now (old .entry)) (t .0) (now (new .entry))) (whereIs (now (image .entry)) (p .0) (now (old .entry))) ⌝ }
 {
     match judging::dir_head(image, p) {
         Decoded::Good(s) => judge_target(image, nb, p, s, old, t, new),
@@ -283,10 +283,10 @@ fn move_at(
     editing::write_entry(image, nb, p, k, &e);
 }
 
-// What move does where it refuses nothing.
-fn move_named(image: &mut [u8], nb: u32, p: INodeId, old: &[u8], t: INodeId, new: &[u8])
-    requires { ⌜ Whole (now image) × Reached (now image) (p .0) × Reached (now image) (t .0) × (nb ≡ blocks (now image)) × (actedNo (moveAnswer nb (now image) (p .0) (now old) (t .0) (now new)) ≡ 0) ⌝ }
-    ensures { λ _. ⌜ now (image .exit) ≡ moveCard nb (now (image .entry)) (p .0) (now (old .entry)) (t .0) (now (new .entry)) ⌝ }
+// Entry k of directory p becomes `new` in t.
+fn move_named(image: &mut [u8], nb: u32, p: INodeId, k: usize, t: INodeId, new: &[u8])
+    requires { ⌜ Whole (now image) × Reached (now image) (p .0) × Reached (now image) (t .0) × (nb ≡ blocks (now image)) × (kind (now image) (p .0) ≡ 2) × (k < entries (now image) (p .0)) × ((p .0 ≡ t .0 → ⊥) → kind (now image) (entry (now image) (p .0) k) ≡ 2 → links (now image) (t .0) < fullLinks) × (length (now new) ≤ 255) ⌝ }
+    ensures { λ _. ⌜ now (image .exit) ≡ movedAt nb (now (image .entry)) (p .0) k (t .0) (now (new .entry)) ⌝ }
 {
     let Decoded::Good(s) = inode::decode(image, p) else {
         return;
@@ -294,7 +294,6 @@ fn move_named(image: &mut [u8], nb: u32, p: INodeId, old: &[u8], t: INodeId, new
     let Decoded::Good(h) = inode::decode(image, t) else {
         return;
     };
-    let k = judging::is_there(image, p, s, old);
     let c = loading::entry_number(image, p, k);
     let Decoded::Good(g) = inode::decode(image, c) else {
         return;
@@ -307,9 +306,9 @@ pub fn move_(image: &mut [u8], nb: u32, p: INodeId, old: &[u8], t: INodeId, new:
     ensures { λ r. ⌜ (r ≡ moveAnswer nb (now (image .entry)) (p .0) (now (old .entry)) (t .0) (now (new .entry))) × (now (image .exit) ≡ moveCard nb (now (image .entry)) (p .0) (now (old .entry)) (t .0) (now (new .entry))) ⌝ }
 {
     let r = judge_move(image, nb, p, old, t, new);
-    let Acted::Done(_) = r else {
+    let Acted::Done(k) = r else {
         return r;
     };
-    move_named(image, nb, p, old, t, new);
-    r
+    move_named(image, nb, p, k as usize, t, new);
+    Acted::Done(0)
 }

@@ -17,7 +17,7 @@ use Rattle.card.specs.Whole.{Reached, Whole}
 use Rattle.card.proofs.Views.{kids-of-dir}
 use Rattle.entries.specs.Entries.{whereIs, entryPut}
 use Rattle.acts.specs.Answers.{actedNo, isDir, namedBy}
-use Rattle.moving.specs.Move.{moveAnswer, upPut, movedFile, movedDir, moved, moveCard}
+use Rattle.moving.specs.Move.{moveAnswer, upPut, movedFile, movedDir, moved, movedAt, moveCard}
 use Rattle.acts.specs.declared.Acted.the-variants.{Done}
 use Rattle.theory.proofs.Requests.{OfKind, of-kind, kinds, Filelike, filelike}
 use Rattle.moving.proofs.MoveLaws.{move-refused as by-tag}
@@ -91,7 +91,7 @@ module _ {img : List ℕ} (w : Whole img) (p t : ℕ) (old new : List ℕ) (rp :
 
   -- the card then
   move-is : moveCard (blocks img) img p old t new ≡ moved (blocks img) p (headAt img p Dir) j c (headAt img c (c-of .0)) t (headAt img t Dir) new img
-  unfolding moveCard
+  unfolding moveCard movedAt
   move-is = rw (p-of .decodes, t-of .decodes, c-of .1 .decodes, done)
 
   pub move-here : p ≡ t → moveCard (blocks img) img p old t new ≡ entryPut (blocks img) p j (entryOf c new) img

@@ -23,8 +23,8 @@ use Rattle.entries.specs.Entries.{whereIs}
 use Rattle.acts.specs.Answers.{actedNo, ifDone, ofHead, namedBy}
 use Rattle.creating.specs.Create.{createAnswer, createCard}
 use Rattle.linking.specs.Link.{linkAnswer, linkCard}
-use Rattle.unlinking.specs.Unlink.{unlinkAnswer, unlinkCard}
-use Rattle.moving.specs.Move.{moveAnswer, moveCard}
+use Rattle.unlinking.specs.Unlink.{unlinkAnswer, unlinkedAt, unlinkCard}
+use Rattle.moving.specs.Move.{moveAnswer, movedAt, moveCard}
 use Rattle.acts.specs.declared.Acted.{Acted}
 use Rattle.acts.proofs.Ready.{below-ready, size-ready}
 use Rattle.said.specs.Said.{ifOpen}
@@ -138,15 +138,15 @@ module _ {img : List ℕ} (w : Whole img) where
         start
 
     tail-unlinkCard : (x : List ℕ) → Kept (unlinkCard (blocks img) img n x)
-    unfolding unlinkCard
+    unfolding unlinkCard unlinkedAt
     tail-unlinkCard x =
         let c = namedBy img n x in
+        if-done Kept (unlinkAnswer img n x) _ img
+        (λ e.
         of-head Kept img n img _
         (λ k.
         of-head Kept img c img _
         (λ m.
-        if-done Kept (unlinkAnswer img n x) _ img
-        (λ e.
         tail-unlinked (blocks img) few img n here (recordWith img n (headAt img n k)) (twelve-at img n) small (whereIs img n x) c
         (below-ready img w c (target w n r x e .1 .reached))
         (recordWith img c (headAt img c m))
@@ -158,17 +158,17 @@ module _ {img : List ℕ} (w : Whole img) where
         start
 
     tail-moveCard : (old : List ℕ) (t : ℕ) (new : List ℕ) → Reached img t → Kept (moveCard (blocks img) img n old t new)
-    unfolding moveCard
+    unfolding moveCard movedAt
     tail-moveCard old t new q =
         let c = namedBy img n old in
+        if-done Kept (moveAnswer (blocks img) img n old t new) _ img
+        (λ e.
         of-head Kept img n img _
         (λ k.
         of-head Kept img t img _
         (λ m.
         of-head Kept img c img _
         (λ g.
-        if-done Kept (moveAnswer (blocks img) img n old t new) _ img
-        (λ e.
         tail-moved (blocks img) few img n here (whereIs img n old) c t (below-ready img w t q) new img start (headAt img n k) (headAt img c g) (headAt img t m)
         small
         (omega (arith, size-ready img w t q)))

@@ -1,7 +1,5 @@
 -- "Bytes past its last block are never read" (01), of the cards that the calls leave: made of two images with the same blocks, they have the same blocks
 -- again. Where a call refuses, both are as they were. Assumes nothing.
-use mathlib.Core.Path.{_≡_, sym, ap, _∙_}
-use mathlib.Core.Logic.{_≢_}
 use mathlib.Core.Bool.{false}
 use mathlib.Core.List.{List}
 use Prim.Native.Nat.{ℕ, _≤_, _<_}
@@ -14,15 +12,15 @@ use Rattle.layout.specs.declared.inode.Head.{Head}
 use Rattle.card.specs.Whole.{Reached, Whole}
 use Rattle.files.specs.Requests.{longest, judged, recordWith, resizeCard, endOf, writeJudged, writeCard}
 use Rattle.entries.specs.Entries.{whereIs}
-use Rattle.acts.specs.Answers.{actedNo, namedBy}
+use Rattle.acts.specs.Answers.{namedBy}
 use Rattle.acts.proofs.Ready.{below-ready, size-ready}
 use Rattle.creating.specs.Create.{createAnswer, createCard}
 use Rattle.linking.specs.Link.{linkAnswer, linkCard}
-use Rattle.unlinking.specs.Unlink.{unlinkAnswer, unlinkCard}
-use Rattle.moving.specs.Move.{moveAnswer, moveCard}
-use Rattle.theory.proofs.UnlinkTests.{target, unlink-refused}
+use Rattle.unlinking.specs.Unlink.{unlinkAnswer, unlinkedAt, unlinkCard}
+use Rattle.moving.specs.Move.{moveAnswer, movedAt, moveCard}
+use Rattle.theory.proofs.UnlinkTests.{target}
 use Rattle.theory.proofs.MoveTests.{move-tests, move-can}
-use Rattle.theory.proofs.MoveJudged.{judged as move-judged, move-refused}
+use Rattle.theory.proofs.MoveJudged.{judged as move-judged}
 use Rattle.theory.proofs.TailCalls.{judged-small, write-small}
 use Rattle.theory.proofs.Both.{both-if, both-done, both-head, both-file}
 use Rattle.theory.proofs.Twins.{Twin}
@@ -113,46 +111,33 @@ module _ {img out : List ℕ} (w : Whole img) (t : Twin (blocks img) img out) wh
         t)
         t)
 
-    unlink-done-twin : (x : List ℕ) → actedNo (unlinkAnswer img n x) ≡ 0 → Same (unlinkCard nb img n x) (unlinkCard nb out n x)
-    unfolding unlinkCard
-    unlink-done-twin x e =
+    pub unlinkCard-twin : (x : List ℕ) → Same (unlinkCard nb img n x) (unlinkCard nb out n x)
+    unfolding unlinkCard unlinkedAt
+    unlinkCard-twin x =
+        rw (unlinkAnswer-twin w t n r x)
+        (both-if Same (unlinkAnswer img n x) _ _ img out
+        (λ e.
         let g = target w n r x e .1 in
         let c = namedBy img n x in
-        rw (
-          decoded-twin w t n r,
-          where-twin w t n r x,
-          entry-twin w t n r (whereIs img n x) (g .there),
-          decoded-twin w t c (g .reached),
-          unlinkAnswer-twin w t n r x,
-        )
+        rw (decoded-twin w t n r, where-twin w t n r x, entry-twin w t n r (whereIs img n x) (g .there), decoded-twin w t c (g .reached))
         (both-head Same img n img out _ _
         (λ k.
         both-head Same img c img out _ _
-        (λ m.
-        both-if Same (unlinkAnswer img n x) _ _ img out
-        (λ _. rw (record-twin w t n r (headAt img n k), record-twin w t c (g .reached) (headAt img c m))
+        (λ m. rw (record-twin w t n r (headAt img n k), record-twin w t c (g .reached) (headAt img c m))
         (twin-unlinked nb few n here (recordWith img n (headAt img n k)) small (whereIs img n x) (omega (arith, g .there, small)) c
         (below-ready img w c (g .reached))
         (recordWith img c (headAt img c m))
         t))
         t)
+        t))
         t)
-        t)
 
-    pub unlinkCard-twin : (x : List ℕ) → Same (unlinkCard nb img n x) (unlinkCard nb out n x)
-    unlinkCard-twin x = go (decLt 0 (actedNo (unlinkAnswer img n x)))
-      where
-        refused : actedNo (unlinkAnswer img n x) ≢ 0 → Same (unlinkCard nb img n x) (unlinkCard nb out n x)
-        refused d =
-            rw (unlink-refused nb img n x d, unlink-refused nb out n x (λ e. d (ap actedNo (sym (unlinkAnswer-twin w t n r x)) ∙ e))) t
-
-        go : Dec (0 < actedNo (unlinkAnswer img n x)) → Same (unlinkCard nb img n x) (unlinkCard nb out n x)
-        go (yes l) = refused (λ e. omega arith)
-        go (no l) = unlink-done-twin x (omega arith)
-
-    move-done-twin : (old : List ℕ) (a : ℕ) (new : List ℕ) → (q : Reached img a) → actedNo (moveAnswer nb img n old a new) ≡ 0 → Same (moveCard nb img n old a new) (moveCard nb out n old a new)
-    unfolding moveCard
-    move-done-twin old a new q e =
+    pub moveCard-twin : (old : List ℕ) (a : ℕ) (new : List ℕ) → Reached img a → Same (moveCard nb img n old a new) (moveCard nb out n old a new)
+    unfolding moveCard movedAt
+    moveCard-twin old a new q =
+        rw (moveAnswer-twin w t n r old a q new)
+        (both-if Same (moveAnswer nb img n old a new) _ _ img out
+        (λ e.
         let g = move-judged w n a old new r q (move-can (move-tests w n r old a q new) e .3) in
         let c = namedBy img n old in
         rw (
@@ -161,16 +146,13 @@ module _ {img out : List ℕ} (w : Whole img) (t : Twin (blocks img) img out) wh
           where-twin w t n r old,
           entry-twin w t n r (whereIs img n old) (g .there),
           decoded-twin w t c (g .c-reached),
-          moveAnswer-twin w t n r old a q new,
         )
         (both-head Same img n img out _ _
         (λ k.
         both-head Same img a img out _ _
         (λ m.
         both-head Same img c img out _ _
-        (λ f.
-        both-if Same (moveAnswer nb img n old a new) _ _ img out
-        (λ _. twin-moved nb few n here (whereIs img n old) (omega (arith, g .there, small)) c (below-ready img w c (g .c-reached)) a (below-ready img w a q) new t
+        (λ f. twin-moved nb few n here (whereIs img n old) (omega (arith, g .there, small)) c (below-ready img w c (g .c-reached)) a (below-ready img w a q) new t
         (headAt img n k)
         (headAt img c f)
         (headAt img a m)
@@ -178,20 +160,5 @@ module _ {img out : List ℕ} (w : Whole img) (t : Twin (blocks img) img out) wh
         (omega (arith, size-ready img w a q)))
         t)
         t)
+        t))
         t)
-        t)
-
-    pub moveCard-twin : (old : List ℕ) (a : ℕ) (new : List ℕ) → Reached img a → Same (moveCard nb img n old a new) (moveCard nb out n old a new)
-    moveCard-twin old a new q = go (decLt 0 (actedNo (moveAnswer nb img n old a new)))
-      where
-        refused : actedNo (moveAnswer nb img n old a new) ≢ 0 → Same (moveCard nb img n old a new) (moveCard nb out n old a new)
-        refused d =
-            rw (
-              move-refused nb img n old a new d,
-              move-refused nb out n old a new (λ e. d (ap actedNo (sym (moveAnswer-twin w t n r old a q new)) ∙ e)),
-            )
-            t
-
-        go : Dec (0 < actedNo (moveAnswer nb img n old a new)) → Same (moveCard nb img n old a new) (moveCard nb out n old a new)
-        go (yes l) = refused (λ e. omega arith)
-        go (no l) = move-done-twin old a new q (omega arith)

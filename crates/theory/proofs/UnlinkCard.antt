@@ -32,7 +32,7 @@ use Rattle.card.proofs.Isolation.{others-same}
 use Rattle.entries.specs.Entries.{whereIs, removed}
 use Rattle.entries.proofs.Lookup.{where-hit}
 use Rattle.acts.specs.Answers.{actedNo, namedBy}
-use Rattle.unlinking.specs.Unlink.{linksLeft, parentLess, dropped, unlinked, unlinkAnswer, unlinkCard}
+use Rattle.unlinking.specs.Unlink.{linksLeft, parentLess, dropped, unlinked, unlinkAnswer, unlinkedAt, unlinkCard}
 use Rattle.acts.specs.declared.Acted.the-variants.{Done}
 use Rattle.theory.proofs.Requests.{of-kind}
 use Rattle.theory.proofs.Counts.{subs-none}
@@ -362,7 +362,7 @@ module _ {img : List ℕ} (w : Whole img) (bytes : Bytes img) (p : ℕ) (r : Rea
   -- ---- the card that unlink leaves
 
   card-is : unlinkAnswer img p x ≡ Done 0 → unlinkCard (blocks img) img p x ≡ unlinked (blocks img) p (inodeAt img p Dir) j c (inodeAt img c k) img
-  unfolding unlinkCard
+  unfolding unlinkCard unlinkedAt
   card-is e = rw (of-kind img p Dir (t .parent) .decodes, t .of .decodes, e)
 
   card-done : UnlinkDone l img (unlinked (blocks img) p (inodeAt img p Dir) j c (inodeAt img c k) img) p x

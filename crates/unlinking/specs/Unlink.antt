@@ -1,7 +1,7 @@
 -- Unlink (document 01): "puts the last entry in the hole, shortens the directory by 260, and at no links frees the inode and all it owns; the dead record
 -- keeps its fields with links 0". Its tests, in order: 6, 7, 10, 11.
 use Prim.Native.Nat.{ℕ, _-_, _/_}
-use mathlib.Core.Bool.{Bool, true, false}
+use mathlib.Core.Bool.{Bool, false}
 use mathlib.Core.List.{List}
 use lib.Dec.{eqb, ltb}
 use Rattle.words.specs.Words.{pick}
@@ -9,7 +9,7 @@ use Rattle.layout.specs.Inode.{decoded, encoded, withLinks}
 use Rattle.layout.specs.declared.inode.Head.{Head}
 use Rattle.layout.specs.declared.inode.DiskINode.{DiskINode}
 use Rattle.freemap.specs.Free.{freed}
-use Rattle.card.specs.View.{entries}
+use Rattle.card.specs.View.{entries, entry}
 use Rattle.blocks.specs.Taking.{shrunk}
 use Rattle.files.specs.Resizing.{fileBlocks}
 use Rattle.files.specs.Requests.{recordWith}
@@ -52,12 +52,13 @@ unlinked nb p d k c e img = pick (eqb (linksLeft (e .head)) 0) (dropped nb c e l
     less : List ℕ
     less = encoded (removed nb p (withLinks d (parentLess (d .head) (e .head))) k img) c (withLinks e (linksLeft (e .head)))
 
-unfoldable pub unlinkCard : ℕ → List ℕ → ℕ → List ℕ → List ℕ
-unlinkCard nb img p x =
+-- entry k of p goes, and with it a name of the inode that it names
+unfoldable pub unlinkedAt : ℕ → List ℕ → ℕ → ℕ → List ℕ
+unlinkedAt nb img p k =
     ofHead (decoded img p) img
     (λ h.
-    ofHead (decoded img (namedBy img p x)) img
-    (λ g.
-    ifDone (unlinkAnswer img p x)
-    (unlinked nb p (recordWith img p h) (whereIs img p x) (namedBy img p x) (recordWith img (namedBy img p x) g) img)
-    img))
+    ofHead (decoded img (entry img p k)) img
+    (λ g. unlinked nb p (recordWith img p h) k (entry img p k) (recordWith img (entry img p k) g) img))
+
+unfoldable pub unlinkCard : ℕ → List ℕ → ℕ → List ℕ → List ℕ
+unlinkCard nb img p x = ifDone (unlinkAnswer img p x) (unlinkedAt nb img p (whereIs img p x)) img

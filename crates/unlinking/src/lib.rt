@@ -4,14 +4,15 @@ ghost use mathlib.Core.Bool.{true};
 ghost use Prim.Native.Nat.{_+_, _-_, _*_, _≤_, _<_};
 ghost use lib.ListN.{length};
 ghost use Rattle.layout.specs.Super.{blocks};
-ghost use Rattle.layout.specs.Inode.{decoded, encoded, withLinks};
+ghost use Rattle.layout.specs.Inode.{kind, decoded, encoded, withLinks};
 ghost use Rattle.layout.specs.declared.inode.Decoded.the-variants.{Good};
 ghost use Rattle.words.specs.Words.{pick};
+ghost use Rattle.card.specs.View.{entries};
 ghost use Rattle.card.specs.Whole.{Reached, Whole};
 ghost use Rattle.blocks.specs.Shape.{Sizes};
-ghost use Rattle.entries.specs.Entries.{removed};
-ghost use Rattle.acts.specs.Answers.{actedNo, isDir, ofHead};
-ghost use Rattle.unlinking.specs.Unlink.{notEmpty, unlinkAnswer, linksLeft, parentLess, dropped, unlinked, unlinkCard};
+ghost use Rattle.entries.specs.Entries.{whereIs, removed};
+ghost use Rattle.acts.specs.Answers.{placed, isDir, ofHead};
+ghost use Rattle.unlinking.specs.Unlink.{notEmpty, unlinkAnswer, linksLeft, parentLess, dropped, unlinked, unlinkedAt, unlinkCard};
 ghost use Rattle.acts.specs.declared.Acted.the-variants.{Done, EntryNotFound, DirNotEmpty};
 use acts::Acted;
 use acts::judging;
@@ -54,10 +55,10 @@ fn judge_child(image: &[u8], c: INodeId) -> Acted
     Acted::Done(0)
 }
 
-// 7, 10 and 11, in directory p with head h.
+// 7, 10 and 11, in directory p with head h, and the place of the entry.
 fn judge_in(image: &[u8], p: INodeId, h: Head, x: &[u8]) -> Acted
     requires { ⌜ Whole (now image) × Reached (now image) (p .0) × (decoded (now image) (p .0) ≡ Good h) × (isDir (h .«type_») ≡ true) ⌝ }
-    ensures { λ r. ⌜ r ≡ unlinkAnswer (now (image .entry)) (p .0) (now (x .entry)) ⌝ }
+    ensures { λ r. ⌜ r ≡ placed (unlinkAnswer (now (image .entry)) (p .0) (now (x .entry))) (whereIs (now (image .entry)) (p .0) (now (x .entry))) ⌝ }
 {
     if finding::is_dots(x) {
         return Acted::IsDir;
@@ -67,13 +68,13 @@ fn judge_in(image: &[u8], p: INodeId, h: Head, x: &[u8]) -> Acted
         return Acted::EntryNotFound;
     }
     let c = loading::entry_number(image, p, k);
-    judge_child(image, c)
+    judging::with_place(judge_child(image, c), k)
 }
 
-// What unlink answers. Nothing changes.
-pub fn judge_unlink(image: &[u8], p: INodeId, x: &[u8]) -> Acted
+// What unlink answers, and the place of the entry, which is looked up once. Nothing changes.
+fn judge_unlink(image: &[u8], p: INodeId, x: &[u8]) -> Acted
     requires { ⌜ Whole (now image) × Reached (now image) (p .0) ⌝ }
-    ensures { λ r. ⌜ r ≡ unlinkAnswer (now (image .entry)) (p .0) (now (x .entry)) ⌝ }
+    ensures { λ r. ⌜ r ≡ placed (unlinkAnswer (now (image .entry)) (p .0) (now (x .entry))) (whereIs (now (image .entry)) (p .0) (now (x .entry))) ⌝ }
 {
     match judging::dir_head(image, p) {
         Decoded::Good(h) => judge_in(image, p, h, x),
@@ -151,15 +152,14 @@ fn unlink_at(
     drop_inode(image, nb, c, e);
 }
 
-// What unlink does where it refuses nothing.
-fn unlink_named(image: &mut [u8], nb: u32, p: INodeId, x: &[u8])
-    requires { ⌜ Whole (now image) × Reached (now image) (p .0) × (nb ≡ blocks (now image)) × (actedNo (unlinkAnswer (now image) (p .0) (now x)) ≡ 0) ⌝ }
-    ensures { λ _. ⌜ now (image .exit) ≡ unlinkCard nb (now (image .entry)) (p .0) (now (x .entry)) ⌝ }
+// Entry k of directory p goes, and with it a name of the inode that it names.
+fn unlink_named(image: &mut [u8], nb: u32, p: INodeId, k: usize)
+    requires { ⌜ Whole (now image) × Reached (now image) (p .0) × (nb ≡ blocks (now image)) × (kind (now image) (p .0) ≡ 2) × (k < entries (now image) (p .0)) ⌝ }
+    ensures { λ _. ⌜ now (image .exit) ≡ unlinkedAt nb (now (image .entry)) (p .0) k ⌝ }
 {
     let Decoded::Good(h) = inode::decode(image, p) else {
         return;
     };
-    let k = judging::is_there(image, p, h, x);
     let c = loading::entry_number(image, p, k);
     let Decoded::Good(g) = inode::decode(image, c) else {
         return;
@@ -174,9 +174,9 @@ pub fn unlink(image: &mut [u8], nb: u32, p: INodeId, x: &[u8]) -> Acted
     ensures { λ r. ⌜ (r ≡ unlinkAnswer (now (image .entry)) (p .0) (now (x .entry))) × (now (image .exit) ≡ unlinkCard nb (now (image .entry)) (p .0) (now (x .entry))) ⌝ }
 {
     let r = judge_unlink(image, p, x);
-    let Acted::Done(_) = r else {
+    let Acted::Done(k) = r else {
         return r;
     };
-    unlink_named(image, nb, p, x);
-    r
+    unlink_named(image, nb, p, k as usize);
+    Acted::Done(0)
 }

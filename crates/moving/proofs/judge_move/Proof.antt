@@ -1,7 +1,10 @@
 -- `moving::judge_move` meets its contract. The head of the source decides (`move-no-dir`). Assumes nothing.
-use mathlib.Core.Path.{sym, _∙_}
+use mathlib.Core.Path.{sym, ap, _∙_}
 use native.Mathlib.Omega.{arith}
 use Rattle.layout.specs.Inode.{decoded}
+use Rattle.entries.specs.Entries.{whereIs}
+use Rattle.acts.specs.Answers.{placed}
+use Rattle.acts.specs.declared.Acted.{Acted}
 use Rattle.acts.proofs.Ready.{readable-ready}
 use Rattle.acts.proofs.Heads.{dir-good}
 use Rattle.moving.proofs.MoveLaws.{move-no-dir}
@@ -33,8 +36,9 @@ returns c = search needs
 returns-2 : tie.Need-returns-2
 returns-2 c =
     let a = c .before .before .before .before .before .before .args in
-    sym (move-no-dir (a .nb) (a .image .now) (a .p .0) (a .old .now) (a .t .0) (a .new .now)
-    (sym (c .before .before .dir-head .ensures) ∙ c .enum-told .given .1))
+    let e = move-no-dir (a .nb) (a .image .now) (a .p .0) (a .old .now) (a .t .0) (a .new .now)
+    (sym (c .before .before .dir-head .ensures) ∙ c .enum-told .given .1) in
+    sym (ap (λ (j : Acted). placed j (whereIs (a .image .now) (a .p .0) (a .old .now))) e)
 
 pub judge-move-spec : {M : Type 1} → statement M
 judge-move-spec =

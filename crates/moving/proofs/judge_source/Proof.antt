@@ -1,12 +1,11 @@
 -- `moving::judge_source` meets its contract. Each way out is a test of the source; the head's size is the card's. Assumes nothing.
-use mathlib.Core.Path.{sym, _∙_}
+use mathlib.Core.Path.{sym, ap, _∙_}
 use native.Mathlib.Omega.{arith}
-use borrow.Author.Tests.{eq-eqb, ne-eqb}
-use Rattle.card.specs.View.{entries}
-use Rattle.blocks.proofs.Picks.{pick-yes, pick-no}
-use Rattle.acts.proofs.Refused.{held, failed}
+use Rattle.acts.specs.Answers.{placed}
+use Rattle.acts.specs.declared.Acted.{Acted}
 use Rattle.acts.proofs.Heads.{head-is}
 use Rattle.acts.proofs.Dirs.{dir-kind}
+use Rattle.moving.proofs.MoveLaws.{source-none, source-same, source-child}
 use borrow.Author.Needs.{needs}
 use Rattle.moving.proofs.judge_source.Statement.{statement}
 use Rattle.moving.proofs.judge_source.Tie as tie
@@ -22,15 +21,17 @@ returns c =
     let a = c .before .before .before .before .before .args in
     let z = head-is (a .image .now) (a .p .0) (a .s) (c .before .before .before .before .before .pre .3) .size-is in
     let k = c .before .before .is-there in
-    rw (← k .ensures) (sym (pick-no (k .result) (entries (a .image .now) (a .p .0)) _ _ (omega (arith, c .if1 .taken, z))))
+    sym (source-none (a .nb) (a .image .now) (a .p .0) (a .old .now) (a .t .0) (a .h) (k .result) (k .ensures) (omega (arith, c .if1 .taken, z)))
+
+cast-t12 : tie.Need-cast-t12
+cast-t12 c = search needs
 
 returns-2 : tie.Need-returns-2
 returns-2 c =
     let a = c .before .before .before .before .before .before .before .before .args in
     let z = head-is (a .image .now) (a .p .0) (a .s) (c .before .before .before .before .before .before .before .before .pre .3) .size-is in
     let k = c .before .before .before .before .before .is-there in
-    let e = pick-yes (k .result) (entries (a .image .now) (a .p .0)) _ _ (omega (arith, c .before .before .before .if1 .left, z)) in
-    rw (← k .ensures) (sym (e ∙ held _ _ _ (eq-eqb (a .p .0) (a .t .0) (c .if2 .taken))))
+    sym (source-same (a .nb) (a .image .now) (a .p .0) (a .old .now) (a .t .0) (a .h) (k .result) (k .ensures) (omega (arith, c .before .before .before .if1 .left, z)) (c .if2 .taken))
 
 judge-child-requires : tie.Need-judge-child-requires
 judge-child-requires c κs =
@@ -46,15 +47,26 @@ judge-child-requires c κs =
       p .5,
     )
 
+with-place-requires : tie.Need-with-place-requires
+with-place-requires c κs = search needs
+
 returns-3 : tie.Need-returns-3
 returns-3 c =
-    let a = c .before .before .before .before .before .before .before .before .before .args in
-    let z = head-is (a .image .now) (a .p .0) (a .s) (c .before .before .before .before .before .before .before .before .before .pre .3) .size-is in
-    let k = c .before .before .before .before .before .before .is-there in
-    let e = pick-yes (k .result) (entries (a .image .now) (a .p .0)) _ _ (omega (arith, c .before .before .before .before .if1 .left, z)) in
-    rw (← k .ensures) (c .judge-child .ensures ∙ sym (e ∙ failed _ _ _ (ne-eqb (a .p .0) (a .t .0) (c .before .if2 .left))))
+    let a = c .before .before .before .before .before .before .before .before .before .before .args in
+    let z = head-is (a .image .now) (a .p .0) (a .s) (c .before .before .before .before .before .before .before .before .before .before .pre .3) .size-is in
+    let k = c .before .before .before .before .before .before .before .is-there in
+    let e = source-child (a .nb) (a .image .now) (a .p .0) (a .old .now) (a .t .0) (a .h) (k .result) (k .ensures) (omega (arith, c .before .before .before .before .before .if1 .left, z)) (c .before .before .if2 .left) in
+    c .with-place .ensures ∙ ap (λ (j : Acted). placed j (k .result)) (c .before .judge-child .ensures) ∙ sym e
 
 pub judge-source-spec : {M : Type 1} → statement M
 judge-source-spec =
     tie.close
-    (tie.spec is-there-requires cast-if1 returns returns-2 judge-child-requires returns-3)
+    (tie.spec
+    is-there-requires
+    cast-if1
+    returns
+    cast-t12
+    returns-2
+    judge-child-requires
+    with-place-requires
+    returns-3)

@@ -1,7 +1,10 @@
 -- `moving::judge_target` meets its contract. The head of the target decides (`move-no-target`). Assumes nothing.
-use mathlib.Core.Path.{sym, _∙_}
+use mathlib.Core.Path.{sym, ap, _∙_}
 use native.Mathlib.Omega.{arith}
 use Rattle.layout.specs.Inode.{decoded}
+use Rattle.entries.specs.Entries.{whereIs}
+use Rattle.acts.specs.Answers.{placed}
+use Rattle.acts.specs.declared.Acted.{Acted}
 use Rattle.acts.proofs.Ready.{readable-ready}
 use Rattle.acts.proofs.Heads.{dir-good}
 use Rattle.moving.proofs.MoveLaws.{move-dots, move-no-target}
@@ -16,8 +19,9 @@ returns : tie.Need-returns
 returns c =
     let a = c .before .before .before .before .before .args in
     let p = c .before .before .before .before .before .pre in
-    sym (move-dots (a .nb) (a .image .now) (a .p .0) (a .old .now) (a .t .0) (a .new .now) (a .s) (p .3) (p .4)
-    (sym (c .before .is-dots .ensures) ∙ c .if1 .taken))
+    let e = move-dots (a .nb) (a .image .now) (a .p .0) (a .old .now) (a .t .0) (a .new .now) (a .s) (p .3) (p .4)
+    (sym (c .before .is-dots .ensures) ∙ c .if1 .taken) in
+    sym (ap (λ (j : Acted). placed j (whereIs (a .image .now) (a .p .0) (a .old .now))) e)
 
 dir-head-requires : tie.Need-dir-head-requires
 dir-head-requires c κs =
@@ -44,9 +48,10 @@ returns-3 : tie.Need-returns-3
 returns-3 c =
     let a = c .before .before .before .before .before .before .before .before .args in
     let p = c .before .before .before .before .before .before .before .before .pre in
-    sym (move-no-target (a .nb) (a .image .now) (a .p .0) (a .old .now) (a .t .0) (a .new .now) (a .s) (p .3) (p .4)
+    let e = move-no-target (a .nb) (a .image .now) (a .p .0) (a .old .now) (a .t .0) (a .new .now) (a .s) (p .3) (p .4)
     (sym (c .before .before .before .before .is-dots .ensures) ∙ c .before .before .before .if1 .left)
-    (sym (c .before .before .dir-head .ensures) ∙ c .enum-told .given .1))
+    (sym (c .before .before .dir-head .ensures) ∙ c .enum-told .given .1) in
+    sym (ap (λ (j : Acted). placed j (whereIs (a .image .now) (a .p .0) (a .old .now))) e)
 
 pub judge-target-spec : {M : Type 1} → statement M
 judge-target-spec =

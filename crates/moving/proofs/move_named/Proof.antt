@@ -1,17 +1,16 @@
--- `moving::move_named` meets its contract. The entry that has the name stands in a directory, and names a reached inode (`move-ready`). Assumes nothing.
+-- `moving::move_named` meets its contract. Entry k stands in a directory, and names a reached inode (`move-ready`). Assumes nothing.
 use mathlib.Core.Path.{sym, _∙_}
-use Prim.Native.Nat.{_<_}
 use native.Mathlib.Omega.{arith}
 use Rattle.acts.proofs.Ready.{readable-ready}
-use Rattle.acts.proofs.Refused.{done-is}
-use Rattle.moving.proofs.MoveLaws.{move-inside, move-reached, move-ready, move-bad-source, move-bad-target, move-bad-child, move-done}
+use Rattle.acts.proofs.Dirs.{entry-inside, named-reached}
+use Rattle.moving.proofs.MoveLaws.{at-bad-source, at-bad-target, at-bad-child, at-good, move-ready}
 use borrow.Author.Needs.{needs}
 use Rattle.moving.proofs.move_named.Statement.{statement}
 use Rattle.moving.proofs.move_named.Tie as tie
 
 decode-requires : tie.Need-decode-requires
 decode-requires c κs =
-    let s = c .before .before .before .before in
+    let s = c .before .before .before in
     omega (arith, readable-ready (s .args .image .now) (s .pre .0) (s .args .p .0) (s .pre .1) .here)
 
 enum-known-s : tie.Need-enum-known-s
@@ -25,12 +24,12 @@ same-length c = search needs
 
 returns : tie.Need-returns
 returns c =
-    let a = c .before .before .before .before .before .before .before .args in
-    sym (move-bad-source (a .nb) (a .image .now) (a .p .0) (a .old .now) (a .t .0) (a .new .now) (sym (c .before .before .decode .ensures) ∙ c .enum-told .given .1))
+    let a = c .before .before .before .before .before .before .args in
+    sym (at-bad-source (a .nb) (a .image .now) (a .p .0) (a .k) (a .t .0) (a .new .now) (sym (c .before .before .decode .ensures) ∙ c .enum-told .given .1))
 
 decode-requires-2 : tie.Need-decode-requires-2
 decode-requires-2 c κs =
-    let s = c .before .before .before .before .before .before .before .before .before in
+    let s = c .before .before .before .before .before .before .before .before in
     omega (arith, readable-ready (s .args .image .now) (s .pre .0) (s .args .t .0) (s .pre .2) .here)
 
 enum-known-h : tie.Need-enum-known-h
@@ -44,31 +43,20 @@ same-length-2 c = search needs
 
 returns-2 : tie.Need-returns-2
 returns-2 c =
-    let a = c .before .before .before .before .before .before .before .before .before .before .before .before .args in
-    sym (move-bad-target (a .nb) (a .image .now) (a .p .0) (a .old .now) (a .t .0) (a .new .now) (sym (c .before .before .decode2 .ensures) ∙ c .enum-told2 .given .1))
-
-is-there-requires : tie.Need-is-there-requires
-is-there-requires c κs =
-    let p = c .before .before .before .before .before .before .before .before .before .before .before .before .before .before .pre in
-    (p .0, p .1, sym (c .before .before .before .before .before .before .before .before .before .decode .ensures) ∙ c .before .before .before .before .before .before .before .s .given .1)
+    let a = c .before .before .before .before .before .before .before .before .before .before .before .args in
+    sym (at-bad-target (a .nb) (a .image .now) (a .p .0) (a .k) (a .t .0) (a .new .now) (sym (c .before .before .decode2 .ensures) ∙ c .enum-told2 .given .1))
 
 entry-number-requires : tie.Need-entry-number-requires
 entry-number-requires c κs =
-    let a = c .before .before .before .before .before .before .before .before .before .before .before .before .before .before .before .before .args in
-    let p = c .before .before .before .before .before .before .before .before .before .before .before .before .before .before .before .before .pre in
-    let q = sym (c .before .before .before .before .before .before .before .before .before .before .before .decode .ensures) ∙ c .before .before .before .before .before .before .before .before .before .s .given .1 in
-    let u = sym (c .before .before .before .before .before .before .decode2 .ensures) ∙ c .before .before .before .before .h .given .1 in (
-      readable-ready (a .image .now) (p .0) (a .p .0) (p .1),
-      move-inside (a .nb) (a .image .now) (p .0) (a .p .0) (p .1) (a .t .0) (p .2) (a .old .now) (a .new .now) (p .4) _ _ q u _ (c .before .is-there .ensures),
-    )
+    let a = c .before .before .before .before .before .before .before .before .before .before .before .before .before .args in
+    let p = c .before .before .before .before .before .before .before .before .before .before .before .before .before .pre in
+    (readable-ready (a .image .now) (p .0) (a .p .0) (p .1), entry-inside (a .image .now) (p .0) (a .p .0) (p .1) (a .k) (p .5))
 
 decode-requires-3 : tie.Need-decode-requires-3
 decode-requires-3 c κs =
-    let a = c .before .before .before .before .before .before .before .before .before .before .before .before .before .before .before .before .before .before .args in
-    let p = c .before .before .before .before .before .before .before .before .before .before .before .before .before .before .before .before .before .before .pre in
-    let q = sym (c .before .before .before .before .before .before .before .before .before .before .before .before .before .decode .ensures) ∙ c .before .before .before .before .before .before .before .before .before .before .before .s .given .1 in
-    let u = sym (c .before .before .before .before .before .before .before .before .decode2 .ensures) ∙ c .before .before .before .before .before .before .h .given .1 in
-    let n = move-reached (a .nb) (a .image .now) (p .0) (a .p .0) (p .1) (a .t .0) (p .2) (a .old .now) (a .new .now) (p .4) _ _ q u _ (c .before .before .before .is-there .ensures) _ (c .before .entry-number .ensures) in
+    let a = c .before .before .before .before .before .before .before .before .before .before .before .before .before .before .before .args in
+    let p = c .before .before .before .before .before .before .before .before .before .before .before .before .before .before .before .pre in
+    let n = named-reached (a .image .now) (p .0) (a .p .0) (p .1) (a .k) (p .5) (p .4) _ (c .before .entry-number .ensures) in
     omega (arith, readable-ready (a .image .now) (p .0) _ n .here)
 
 enum-known-g : tie.Need-enum-known-g
@@ -82,32 +70,28 @@ same-length-3 c = search needs
 
 returns-3 : tie.Need-returns-3
 returns-3 c =
-    let a = c .before .before .before .before .before .before .before .before .before .before .before .before .before .before .before .before .before .before .before .before .before .args in
-    sym (move-bad-child (a .nb) (a .image .now) (a .p .0) (a .old .now) (a .t .0) (a .new .now) _ _ (c .before .before .before .before .before .before .is-there .ensures) (c .before .before .before .before .entry-number .ensures)
-    (sym (c .before .before .decode3 .ensures) ∙ c .enum-told3 .given .1))
+    let a = c .before .before .before .before .before .before .before .before .before .before .before .before .before .before .before .before .before .before .args in
+    sym (at-bad-child (a .nb) (a .image .now) (a .p .0) (a .k) (a .t .0) (a .new .now) _ (c .before .before .before .before .entry-number .ensures) (sym (c .before .before .decode3 .ensures) ∙ c .enum-told3 .given .1))
 
 move-at-requires : tie.Need-move-at-requires
 move-at-requires c κs =
-    let a = c .before .before .before .before .before .before .before .before .before .before .before .before .before .before .before .before .before .before .before .before .before .before .before .args in
-    let p = c .before .before .before .before .before .before .before .before .before .before .before .before .before .before .before .before .before .before .before .before .before .before .before .pre in
-    let q = sym (c .before .before .before .before .before .before .before .before .before .before .before .before .before .before .before .before .before .before .decode .ensures) ∙ c .before .before .before .before .before .before .before .before .before .before .before .before .before .before .before .before .s .given .1 in
-    let u = sym (c .before .before .before .before .before .before .before .before .before .before .before .before .before .decode2 .ensures) ∙ c .before .before .before .before .before .before .before .before .before .before .before .h .given .1 in
+    let a = c .before .before .before .before .before .before .before .before .before .before .before .before .before .before .before .before .before .before .before .before .args in
+    let p = c .before .before .before .before .before .before .before .before .before .before .before .before .before .before .before .before .before .before .before .before .pre in
+    let q = sym (c .before .before .before .before .before .before .before .before .before .before .before .before .before .before .before .before .decode .ensures) ∙ c .before .before .before .before .before .before .before .before .before .before .before .before .before .before .s .given .1 in
+    let u = sym (c .before .before .before .before .before .before .before .before .before .before .before .decode2 .ensures) ∙ c .before .before .before .before .before .before .before .before .before .h .given .1 in
     let e = sym (c .before .before .before .before .decode3 .ensures) ∙ c .before .before .g .given .1 in
-    let l : c .before .before .before .before .before .before .before .before .before .before .before .h .given .0 .0 .nlinks < 65536 = let k = c .before .before .before .before .before .before .before .before .before .before .known-told2 .given in omega (arith, k) in
-    move-ready (a .nb) (a .image .now) (p .0) (a .p .0) (p .1) (a .t .0) (p .2) (a .old .now) (a .new .now) (p .4) _ _ q u _ (c .before .before .before .before .before .before .before .before .is-there .ensures) _ (c .before .before .before .before .before .before .entry-number .ensures) (p .3) _ e l
+    move-ready (a .nb) (a .image .now) (a .p .0) (a .k) (a .t .0) (a .new .now) _ (c .before .before .before .before .before .before .entry-number .ensures) (p .0) (p .1) (p .2) (p .4) (p .5) (p .3) (p .6) (p .7) _ _ _ q u e
 
 same-length-4 : tie.Need-same-length-4
 same-length-4 c = search needs
 
 returns-4 : tie.Need-returns-4
 returns-4 c =
-    let a = c .before .before .before .before .before .before .before .before .before .before .before .before .before .before .before .before .before .before .before .before .before .before .before .before .before .before .args in
-    let q = sym (c .before .before .before .before .before .before .before .before .before .before .before .before .before .before .before .before .before .before .before .before .before .decode .ensures) ∙ c .before .before .before .before .before .before .before .before .before .before .before .before .before .before .before .before .before .before .before .s .given .1 in
-    let u = sym (c .before .before .before .before .before .before .before .before .before .before .before .before .before .before .before .before .decode2 .ensures) ∙ c .before .before .before .before .before .before .before .before .before .before .before .before .before .before .h .given .1 in
+    let a = c .before .before .before .before .before .before .before .before .before .before .before .before .before .before .before .before .before .before .before .before .before .before .before .args in
+    let q = sym (c .before .before .before .before .before .before .before .before .before .before .before .before .before .before .before .before .before .before .before .decode .ensures) ∙ c .before .before .before .before .before .before .before .before .before .before .before .before .before .before .before .before .before .s .given .1 in
+    let u = sym (c .before .before .before .before .before .before .before .before .before .before .before .before .before .before .decode2 .ensures) ∙ c .before .before .before .before .before .before .before .before .before .before .before .before .h .given .1 in
     let e = sym (c .before .before .before .before .before .before .before .decode3 .ensures) ∙ c .before .before .before .before .before .g .given .1 in
-    let d = done-is _ (c .before .before .before .before .before .before .before .before .before .before .before .before .before .before .before .before .before .before .before .before .before .before .before .before .before .before .pre .4) in
-    c .before .before .move-at .ensures
-    ∙ sym (move-done (a .nb) (a .image .now) (a .p .0) (a .old .now) (a .t .0) (a .new .now) _ _ (c .before .before .before .before .before .before .before .before .before .before .before .is-there .ensures) (c .before .before .before .before .before .before .before .before .before .entry-number .ensures) _ _ _ _ q u e d)
+    c .before .before .move-at .ensures ∙ sym (at-good (a .nb) (a .image .now) (a .p .0) (a .k) (a .t .0) (a .new .now) _ (c .before .before .before .before .before .before .before .before .before .entry-number .ensures) _ _ _ q u e)
 
 pub move-named-spec : {M : Type 1} → statement M
 move-named-spec =
@@ -123,7 +107,6 @@ move-named-spec =
     enum-told-2
     same-length-2
     returns-2
-    is-there-requires
     entry-number-requires
     decode-requires-3
     enum-known-g

@@ -1,8 +1,10 @@
 -- `unlinking::judge_in` meets its contract. Each way out is a case of `unlinkAnswer`; the head's size is the card's. Assumes nothing.
-use mathlib.Core.Path.{sym, _∙_}
+use mathlib.Core.Path.{refl, sym, ap, _∙_}
 use Prim.Native.Nat.{_<_}
 use native.Mathlib.Omega.{arith}
 use Rattle.card.specs.View.{entries}
+use Rattle.acts.specs.Answers.{placed}
+use Rattle.acts.specs.declared.Acted.{Acted}
 use Rattle.acts.proofs.Ready.{readable-ready}
 use Rattle.acts.proofs.Heads.{head-is}
 use Rattle.acts.proofs.Dirs.{dir-kind, entry-inside, named-reached, named-is}
@@ -18,7 +20,7 @@ returns : tie.Need-returns
 returns c =
     let s = c .before .before .before .before in
     let a = s .args in
-    sym (unlink-dots (a .image .now) (a .p .0) (a .x .now) (a .h) (s .pre .2) (s .pre .3) (sym (c .before .is-dots .ensures) ∙ c .if1 .taken))
+    rw (unlink-dots (a .image .now) (a .p .0) (a .x .now) (a .h) (s .pre .2) (s .pre .3) (sym (c .before .is-dots .ensures) ∙ c .if1 .taken)) refl
 
 is-there-requires : tie.Need-is-there-requires
 is-there-requires c κs = search needs
@@ -31,8 +33,9 @@ returns-2 c =
     let s = c .before .before .before .before .before .before .before in
     let a = s .args in
     let z = head-is (a .image .now) (a .p .0) (a .h) (s .pre .2) .size-is in
-    sym (unlink-none (a .image .now) (a .p .0) (a .x .now) (a .h) (s .pre .2) (s .pre .3) (sym (c .before .before .before .before .is-dots .ensures) ∙ c .before .before .before .if1 .left)
-    (omega (arith, c .if2 .taken, c .before .before .is-there .ensures, z)))
+    let e = unlink-none (a .image .now) (a .p .0) (a .x .now) (a .h) (s .pre .2) (s .pre .3) (sym (c .before .before .before .before .is-dots .ensures) ∙ c .before .before .before .if1 .left)
+    (omega (arith, c .if2 .taken, c .before .before .is-there .ensures, z)) in
+    rw e refl
 
 entry-number-requires : tie.Need-entry-number-requires
 entry-number-requires c κs =
@@ -53,16 +56,19 @@ judge-child-requires c κs =
     let n = named-reached (a .image .now) (p .0) (a .p .0) (p .1) _ l (dir-kind (a .image .now) (a .p .0) (a .h) (p .2) (p .3)) _ (c .entry-number .ensures) in
     omega (arith, readable-ready (a .image .now) (p .0) _ n .here)
 
+with-place-requires : tie.Need-with-place-requires
+with-place-requires c κs = search needs
+
 returns-3 : tie.Need-returns-3
 returns-3 c =
-    let s = c .before .before .before .before .before .before .before .before .before in
+    let s = c .before .before .before .before .before .before .before .before .before .before in
     let a = s .args in
     let z = head-is (a .image .now) (a .p .0) (a .h) (s .pre .2) .size-is in
-    let i = c .before .before .before .before .is-there .ensures in
-    let n = named-is (a .image .now) (a .p .0) (a .x .now) _ _ i (c .before .entry-number .ensures) in
-    let e = unlink-rest (a .image .now) (a .p .0) (a .x .now) (a .h) (s .pre .2) (s .pre .3) (sym (c .before .before .before .before .before .before .is-dots .ensures) ∙ c .before .before .before .before .before .if1 .left)
-    (omega (arith, c .before .before .if2 .left, i, z)) in
-    rw (e, ← n) (c .judge-child .ensures)
+    let i = c .before .before .before .before .before .is-there .ensures in
+    let n = named-is (a .image .now) (a .p .0) (a .x .now) _ _ i (c .before .before .entry-number .ensures) in
+    let e = unlink-rest (a .image .now) (a .p .0) (a .x .now) (a .h) (s .pre .2) (s .pre .3) (sym (c .before .before .before .before .before .before .before .is-dots .ensures) ∙ c .before .before .before .before .before .before .if1 .left)
+    (omega (arith, c .before .before .before .if2 .left, i, z)) in
+    rw (e, ← n, ← i) (c .with-place .ensures ∙ ap (λ (j : Acted). placed j (c .before .before .before .before .before .is-there .result)) (c .before .judge-child .ensures))
 
 pub judge-in-spec : {M : Type 1} → statement M
 judge-in-spec =
@@ -75,4 +81,5 @@ judge-in-spec =
     returns-2
     entry-number-requires
     judge-child-requires
+    with-place-requires
     returns-3)

@@ -1,5 +1,5 @@
 -- `unlinking::judge_unlink` meets its contract. The head decides (`unlink-no-dir`). Assumes nothing.
-use mathlib.Core.Path.{sym, _∙_}
+use mathlib.Core.Path.{refl, sym, _∙_}
 use native.Mathlib.Omega.{arith}
 use Rattle.layout.specs.Inode.{decoded}
 use Rattle.acts.proofs.Ready.{readable-ready}
@@ -32,7 +32,7 @@ returns c = search needs
 returns-2 : tie.Need-returns-2
 returns-2 c =
     let a = c .before .before .before .before .before .args in
-    sym (unlink-no-dir (a .image .now) (a .p .0) (a .x .now) (sym (c .before .before .dir-head .ensures) ∙ c .enum-told .given .1))
+    rw (unlink-no-dir (a .image .now) (a .p .0) (a .x .now) (sym (c .before .before .dir-head .ensures) ∙ c .enum-told .given .1)) refl
 
 pub judge-unlink-spec : {M : Type 1} → statement M
 judge-unlink-spec =
