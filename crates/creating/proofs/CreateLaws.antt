@@ -1,9 +1,10 @@
 -- Create's tests, case by case, and what is left of the card. Assumes nothing.
-use mathlib.Core.Path.{_≡_, sym, _∙_}
+use mathlib.Core.Path.{_≡_, refl, sym, ap, _∙_}
 use mathlib.Core.Bool.{Bool, true, false}
 use mathlib.Core.List.{List}
 use Prim.Native.Nat.{ℕ, _≤_, _<_}
 use native.Mathlib.Omega.{arith}
+use native.Mathlib.Decide.{decLt}
 use lib.Dec.{eqb, ltb}
 use lib.ListN.{length}
 use borrow.Author.Tests.{eq-eqb, ne-eqb}
@@ -13,18 +14,48 @@ use Rattle.layout.specs.Inode.{decoded}
 use Rattle.layout.specs.declared.inode.Head.{Head}
 use Rattle.layout.specs.declared.inode.DiskINode.{DiskINode}
 use Rattle.layout.specs.declared.inode.Decoded.the-variants.{Good, BadKind}
+use Rattle.freemap.specs.Free.{lowest, takenAt, taken}
+use Rattle.freemap.proofs.Laws.{lowest-least, lowest-range, lowest-on}
 use Rattle.card.specs.View.{entries}
+use Rattle.blocks.specs.Taking.{nextFree}
+use Rattle.blocks.proofs.Growth.{nextFree-some, nextFree-none}
 use Rattle.blocks.proofs.Picks.{pick-yes, pick-no}
 use Rattle.files.specs.Requests.{recordWith}
 use Rattle.entries.specs.Entries.{whereIs}
 use Rattle.entries.specs.Names.{storable}
 use Rattle.entries.proofs.Given.{storable-name}
-use Rattle.acts.specs.Answers.{isDir, fullLinks}
-use Rattle.creating.specs.Create.{knownKind, fileKind, freshInode, createTakes, createRoom, createAnswer, madeFile, madeDir, made, createCard}
+use Rattle.acts.specs.Answers.{actedValue, isDir, fullLinks}
+use Rattle.creating.specs.Create.{knownKind, fileKind, freshInode, NoneBelow, createTakes, createRoom, createAnswer, madeFile, madeDir, made, createCard}
 use Rattle.acts.specs.declared.Acted.{Acted}
 use Rattle.acts.specs.declared.Acted.the-variants.{Done, NotDir, BadName, EntryExist, InvalidParam, TooManyLinks, NoDeviceSpace}
 use Rattle.acts.proofs.Heads.{dirOf, dir-bad, dir-yes}
 use Rattle.acts.proofs.Refused.{Refused, if-refused, if-done, of-good, of-bad, of-same, held, failed, two-tests, test-passed, test-held}
+
+-- ---- the number that is answered
+
+module _ (nb : ℕ) (img : List ℕ) where
+  -- the search goes on from it
+  pub fresh-first : (v : ℕ) → v ≡ freshInode nb img → NoneBelow nb img v
+  fresh-first v e = go (decLt (lowest img 0 nb) nb)
+    where
+      low : (0 ≤ lowest img 0 nb) × (lowest img 0 nb ≤ nb)
+      low = lowest-range img 0 nb (omega arith)
+
+      on : lowest img 0 nb ≡ lowest img (lowest img 0 nb) nb
+      on = lowest-on img 0 (lowest img 0 nb) nb (low .0) (low .1) (λ k p q f. omega (arith, low .1, lowest-least img 0 nb k p (omega (arith, low .1)) f))
+
+      go : Dec (lowest img 0 nb < nb) → NoneBelow nb img v
+      go (yes l) = rw (e, nextFree-some nb img 0 l) (record { within = low .1; same = sym on })
+      go (no l) = rw (e, nextFree-none nb img 0 (omega arith)) (record { within = omega arith; same = refl })
+
+  module _ (from : ℕ) (n : NoneBelow nb img from) where
+    pub next-same : nextFree nb img from ≡ freshInode nb img
+    unfolding nextFree
+    next-same = ap (λ (b : ℕ). pick (ltb b nb) b 0) (n .same)
+
+    pub taken-same : taken img from nb ≡ taken img 0 nb
+    unfolding taken
+    taken-same = ap (λ (b : ℕ). pick (ltb b nb) (takenAt img b) img) (n .same)
 
 -- ---- 13 and 14
 
@@ -108,6 +139,11 @@ module _ (nb : ℕ) (img : List ℕ) (p : ℕ) (x : List ℕ) (k : ℕ) where
     by-room =
         let n = test-passed (ltb (whereIs img p x) (entries img p)) EntryExist _ v (λ z. omega arith) (by-name .1) in
         test-held (knownKind k) (createRoom nb img h k) InvalidParam v (λ z. omega arith) (n .1) .1
+
+    pub taken-number : v ≡ freshInode nb img
+    taken-number =
+        let l = test-passed (linksFull h k) TooManyLinks _ v (λ z. omega arith) (sym (room-is nb img h k) ∙ by-room) .1 in
+        sym (ap actedValue (test-passed (ltb (unused img) (createTakes h k)) NoDeviceSpace (Done (freshInode nb img)) v (λ z. omega arith) l .1))
 
     pub taken-name : length x ≤ 255
     taken-name = storable-name x (by-name .0) .high

@@ -1,7 +1,8 @@
 -- Create (document 01): "takes the inode block, for a directory its data block, then appends in the parent, and answers the number". Its tests, in order:
 -- 6, 8, 9, 12, 13, 14.
-use Prim.Native.Nat.{ℕ, _+_}
-use mathlib.Core.Bool.{Bool, true, false}
+use mathlib.Core.Path.{_≡_}
+use Prim.Native.Nat.{ℕ, _+_, _≤_}
+use mathlib.Core.Bool.{Bool, false}
 use mathlib.Core.List.{List}
 use lib.Dec.{eqb, ltb}
 use Rattle.words.specs.Words.{pick}
@@ -12,7 +13,7 @@ use Rattle.layout.specs.declared.inode.FileType.{FileType}
 use Rattle.layout.specs.declared.inode.FileType.the-variants.{File, Dir, SymLink}
 use Rattle.layout.specs.declared.inode.Head.{Head}
 use Rattle.layout.specs.declared.inode.DiskINode.{DiskINode}
-use Rattle.freemap.specs.Free.{taken}
+use Rattle.freemap.specs.Free.{lowest, taken}
 use Rattle.card.specs.View.{entries}
 use Rattle.blocks.specs.Taking.{nextFree}
 use Rattle.files.specs.Resizing.{resized}
@@ -33,6 +34,11 @@ fileKind k = pick (eqb k 1) File SymLink
 -- the number that is answered: the inode's block
 abbrev pub freshInode : ℕ → List ℕ → ℕ
 freshInode nb img = nextFree nb img 0
+
+-- a block from which a search finds the same one
+pub record NoneBelow (nb : ℕ) (img : List ℕ) (from : ℕ) : Type 0 where
+  pub within : from ≤ nb
+  pub same : lowest img from nb ≡ lowest img 0 nb
 
 -- the blocks that it takes, in a directory with head h
 abbrev pub createTakes : Head → ℕ → ℕ

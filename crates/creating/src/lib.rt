@@ -8,11 +8,12 @@ ghost use Rattle.words.specs.Words.{pick};
 ghost use Rattle.layout.specs.Super.{blocks};
 ghost use Rattle.layout.specs.Inode.{decoded, encoded};
 ghost use Rattle.layout.specs.declared.inode.Decoded.the-variants.{Good};
+ghost use Rattle.freemap.specs.Free.{taken};
 ghost use Rattle.card.specs.Whole.{Reached, Whole};
 ghost use Rattle.blocks.specs.Shape.{Sizes};
 ghost use Rattle.files.specs.Resizing.{resized};
 ghost use Rattle.acts.specs.Answers.{isDir, fullLinks};
-ghost use Rattle.creating.specs.Create.{knownKind, fileKind, freshInode, createTakes, createRoom, createAnswer, madeFile, bareDir, emptyDir, madeDir, made, createCard};
+ghost use Rattle.creating.specs.Create.{knownKind, fileKind, freshInode, NoneBelow, createTakes, createRoom, createAnswer, madeFile, bareDir, emptyDir, madeDir, made, createCard};
 use acts::Acted;
 use acts::judging;
 use entries::editing;
@@ -129,13 +130,29 @@ pub fn judge_create(image: &[u8], nb: u32, p: INodeId, x: &[u8], kind: u32) -> A
     }
 }
 
+// Takes the lowest free block, whose search goes on where it has been found before.
+fn take_first(image: &mut [u8], nb: u32, from: BlockId) -> INodeId
+    requires { ⌜ Sizes (now image) nb × NoneBelow nb (now image) (from .0) ⌝ }
+    ensures { λ r. ⌜ (r .0 ≡ freshInode nb (now (image .entry))) × (now (image .exit) ≡ taken (now (image .entry)) 0 nb) ⌝ }
+{
+    let b = growing::take_next(image, nb, from);
+    INodeId(b.0)
+}
+
 // A file or a symbolic link, in directory p with record d.
-fn make_file(image: &mut [u8], nb: u32, p: INodeId, d: DiskINode, x: &[u8], t: FileType)
-    requires { ⌜ Sizes (now image) nb × (p .0 < nb) × (d .head .size + 260 ≤ 4294967295) × (length (now x) ≤ 255) ⌝ }
+fn make_file(
+    image: &mut [u8],
+    nb: u32,
+    from: BlockId,
+    p: INodeId,
+    d: DiskINode,
+    x: &[u8],
+    t: FileType,
+)
+    requires { ⌜ Sizes (now image) nb × NoneBelow nb (now image) (from .0) × (p .0 < nb) × (d .head .size + 260 ≤ 4294967295) × (length (now x) ≤ 255) ⌝ }
     ensures { λ _. ⌜ now (image .exit) ≡ madeFile nb (p .0) d (now (x .entry)) t (now (image .entry)) ⌝ }
 {
-    let b = growing::take_next(image, nb, BlockId(0));
-    let n = INodeId(b.0);
+    let n = take_first(image, nb, from);
     let f = DiskINode::new(t);
     inode::encode(image, n, f.set_nlinks(1));
     let e = entry::entry_of(n, x);
@@ -166,27 +183,26 @@ fn make_empty(image: &mut [u8], nb: u32, i: INodeId, p: INodeId)
 }
 
 // A directory, in directory p with record d, whose links rise.
-fn make_dir(image: &mut [u8], nb: u32, p: INodeId, d: DiskINode, x: &[u8])
-    requires { ⌜ Sizes (now image) nb × (p .0 < nb) × (d .head .size + 260 ≤ 4294967295) × (length (now x) ≤ 255) × (d .head .nlinks < fullLinks) ⌝ }
+fn make_dir(image: &mut [u8], nb: u32, from: BlockId, p: INodeId, d: DiskINode, x: &[u8])
+    requires { ⌜ Sizes (now image) nb × NoneBelow nb (now image) (from .0) × (p .0 < nb) × (d .head .size + 260 ≤ 4294967295) × (length (now x) ≤ 255) × (d .head .nlinks < fullLinks) ⌝ }
     ensures { λ _. ⌜ now (image .exit) ≡ madeDir nb (p .0) d (now (x .entry)) (now (image .entry)) ⌝ }
 {
-    let b = growing::take_next(image, nb, BlockId(0));
-    let n = INodeId(b.0);
+    let n = take_first(image, nb, from);
     make_empty(image, nb, n, p);
     let e = entry::entry_of(n, x);
     editing::append_direntry(image, nb, p, d.set_nlinks(d.head.nlinks + 1), &e);
 }
 
 // What create does.
-fn make(image: &mut [u8], nb: u32, p: INodeId, d: DiskINode, x: &[u8], kind: u32)
-    requires { ⌜ Sizes (now image) nb × (p .0 < nb) × (d .head .size + 260 ≤ 4294967295) × (length (now x) ≤ 255) × (kind ≡ 2 → d .head .nlinks < fullLinks) ⌝ }
+fn make(image: &mut [u8], nb: u32, from: BlockId, p: INodeId, d: DiskINode, x: &[u8], kind: u32)
+    requires { ⌜ Sizes (now image) nb × NoneBelow nb (now image) (from .0) × (p .0 < nb) × (d .head .size + 260 ≤ 4294967295) × (length (now x) ≤ 255) × (kind ≡ 2 → d .head .nlinks < fullLinks) ⌝ }
     ensures { λ _. ⌜ now (image .exit) ≡ made nb (p .0) d (now (x .entry)) kind (now (image .entry)) ⌝ }
 {
     if kind == 2 {
-        make_dir(image, nb, p, d, x);
+        make_dir(image, nb, from, p, d, x);
         return;
     }
-    make_file(image, nb, p, d, x, file_kind(kind));
+    make_file(image, nb, from, p, d, x, file_kind(kind));
 }
 
 pub fn create(image: &mut [u8], nb: u32, p: INodeId, x: &[u8], kind: u32) -> Acted
@@ -194,13 +210,13 @@ pub fn create(image: &mut [u8], nb: u32, p: INodeId, x: &[u8], kind: u32) -> Act
     ensures { λ r. ⌜ (r ≡ createAnswer nb (now (image .entry)) (p .0) (now (x .entry)) kind) × (now (image .exit) ≡ createCard nb (now (image .entry)) (p .0) (now (x .entry)) kind) ⌝ }
 {
     let r = judge_create(image, nb, p, x, kind);
-    let Acted::Done(_) = r else {
+    let Acted::Done(first) = r else {
         return r;
     };
     let Decoded::Good(h) = inode::decode(image, p) else {
         return r;
     };
     let d = requests::record_with(image, p, h);
-    make(image, nb, p, d, x, kind);
+    make(image, nb, BlockId(first), p, d, x, kind);
     r
 }

@@ -9,7 +9,7 @@ use Rattle.acts.specs.declared.Acted.{Acted}
 use Rattle.acts.proofs.Refused.{Refused}
 use Rattle.acts.proofs.Ready.{sizes-whole, below-ready, readable-ready}
 use Rattle.acts.proofs.Heads.{head-small}
-use Rattle.creating.proofs.CreateLaws.{taken-name, taken-links, create-refused, create-bad, create-done}
+use Rattle.creating.proofs.CreateLaws.{fresh-first, taken-number, taken-name, taken-links, create-refused, create-bad, create-done}
 use borrow.Author.Needs.{needs}
 use Rattle.creating.proofs.create.Statement.{statement}
 use Rattle.creating.proofs.create.Tie as tie
@@ -17,8 +17,8 @@ use Rattle.creating.proofs.create.Tie as tie
 judge-create-requires : tie.Need-judge-create-requires
 judge-create-requires c κs = search needs
 
-enum-told : tie.Need-enum-told
-enum-told c = search needs
+enum-known-r : tie.Need-enum-known-r
+enum-known-r c = search needs
 
 same-length : tie.Need-same-length
 same-length c = search needs
@@ -31,39 +31,40 @@ returns c =
 
 decode-requires : tie.Need-decode-requires
 decode-requires c κs =
-    let s = c .before .before .before .before .before .before .before in
+    let s = c .before .before .before .before .before .before .before .before in
     omega (arith, readable-ready (s .args .image .now) (s .pre .0) (s .args .p .0) (s .pre .1) .here)
 
 enum-known-h : tie.Need-enum-known-h
 enum-known-h c = search needs
 
-enum-told-2 : tie.Need-enum-told-2
-enum-told-2 c = search needs
+enum-told : tie.Need-enum-told
+enum-told c = search needs
 
 same-length-2 : tie.Need-same-length-2
 same-length-2 c = search needs
 
 returns-2 : tie.Need-returns-2
 returns-2 c =
-    let a = c .before .before .before .before .before .before .before .before .before .before .args in
-    (c .before .before .before .before .before .before .judge-create .ensures, sym (create-bad (a .nb) (a .image .now) (a .p .0) (a .x .now) (a .kind) (sym (c .before .before .decode .ensures) ∙ c .enum-told2 .given .1)))
+    let a = c .before .before .before .before .before .before .before .before .before .before .before .args in
+    (sym (c .before .before .before .before .before .r .given .1) ∙ c .before .before .before .before .before .before .before .judge-create .ensures, sym (create-bad (a .nb) (a .image .now) (a .p .0) (a .x .now) (a .kind) (sym (c .before .before .decode .ensures) ∙ c .enum-told .given .1)))
 
 record-with-requires : tie.Need-record-with-requires
 record-with-requires c κs =
-    let s = c .before .before .before .before .before .before .before .before .before .before .before .before in
+    let s = c .before .before .before .before .before .before .before .before .before .before .before .before .before in
     omega (arith, readable-ready (s .args .image .now) (s .pre .0) (s .args .p .0) (s .pre .1) .here)
 
 make-requires : tie.Need-make-requires
 make-requires c κs =
-    let s = c .before .before .before .before .before .before .before .before .before .before .before .before .before .before in
+    let s = c .before .before .before .before .before .before .before .before .before .before .before .before .before .before .before in
     let a = s .args in
     let p = s .pre in
     let h = c .before .before .before .before .h .given .0 .0 in
     let g : decoded (a .image .now) (a .p .0) ≡ Good h = sym (c .before .before .before .before .before .before .decode .ensures) ∙ c .before .before .before .before .h .given .1 in
-    let e = sym (c .before .before .before .before .before .before .before .before .before .before .judge-create .ensures) ∙ c .before .before .before .before .before .before .before .before .enum-told .given .1 in
+    let e = sym (c .before .before .before .before .before .before .before .before .before .before .before .judge-create .ensures) ∙ c .before .before .before .before .before .before .before .before .before .r .given .1 in
     let l : h .nlinks < 65536 = search needs in
     rw (c .before .record-with .ensures) (
       subst (Sizes (a .image .now)) (sym (p .2)) (sizes-whole (a .image .now) (p .0)),
+      fresh-first (a .nb) (a .image .now) _ (taken-number (a .nb) (a .image .now) (a .p .0) (a .x .now) (a .kind) h g _ e),
       omega (arith, p .2, below-ready (a .image .now) (p .0) (a .p .0) (p .1)),
       head-small (a .image .now) (p .0) (a .p .0) (p .1) h g,
       taken-name (a .nb) (a .image .now) (a .p .0) (a .x .now) (a .kind) h g _ e,
@@ -75,13 +76,13 @@ same-length-3 c = search needs
 
 returns-3 : tie.Need-returns-3
 returns-3 c =
-    let a = c .before .before .before .before .before .before .before .before .before .before .before .before .before .before .before .before .before .args in
+    let a = c .before .before .before .before .before .before .before .before .before .before .before .before .before .before .before .before .before .before .args in
     let h = c .before .before .before .before .before .before .before .h .given .0 .0 in
     let g : decoded (a .image .now) (a .p .0) ≡ Good h = sym (c .before .before .before .before .before .before .before .before .before .decode .ensures) ∙ c .before .before .before .before .before .before .before .h .given .1 in
-    let j = c .before .before .before .before .before .before .before .before .before .before .before .before .before .judge-create in (
-      j .ensures,
+    let j = c .before .before .before .before .before .before .before .before .before .before .before .before .before .before .judge-create in (
+      sym (c .before .before .before .before .before .before .before .before .before .before .before .before .r .given .1) ∙ j .ensures,
       rw (c .before .before .make .ensures, c .before .before .before .before .record-with .ensures)
-          (sym (create-done (a .nb) (a .image .now) (a .p .0) (a .x .now) (a .kind) h _ g (sym (j .ensures) ∙ c .before .before .before .before .before .before .before .before .before .before .before .enum-told .given .1))),
+          (sym (create-done (a .nb) (a .image .now) (a .p .0) (a .x .now) (a .kind) h _ g (sym (j .ensures) ∙ c .before .before .before .before .before .before .before .before .before .before .before .before .r .given .1))),
     )
 
 pub create-spec : {M : Type 1} → statement M
@@ -89,12 +90,12 @@ create-spec =
     tie.close
     (tie.spec
     judge-create-requires
-    enum-told
+    enum-known-r
     same-length
     returns
     decode-requires
     enum-known-h
-    enum-told-2
+    enum-told
     same-length-2
     returns-2
     record-with-requires

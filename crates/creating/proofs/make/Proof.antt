@@ -6,7 +6,7 @@ use Rattle.creating.proofs.make.Statement.{statement}
 use Rattle.creating.proofs.make.Tie as tie
 
 make-dir-requires : tie.Need-make-dir-requires
-make-dir-requires c κs = let p = c .before .before .before .before .pre in (p .0, p .1, p .2, p .3, p .4 (c .before .if1 .taken))
+make-dir-requires c κs = let p = c .before .before .before .before .pre in (p .0, p .1, p .2, p .3, p .4, p .5 (c .before .if1 .taken))
 
 same-length : tie.Need-same-length
 same-length c = search needs

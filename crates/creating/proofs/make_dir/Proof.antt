@@ -7,13 +7,13 @@ use borrow.Author.Needs.{needs}
 use Rattle.creating.proofs.make_dir.Statement.{statement}
 use Rattle.creating.proofs.make_dir.Tie as tie
 
-take-next-requires : tie.Need-take-next-requires
-take-next-requires c κs = search needs
+take-first-requires : tie.Need-take-first-requires
+take-first-requires c κs = search needs
 
 make-empty-requires : tie.Need-make-empty-requires
 make-empty-requires c κs =
     let s = c .before .before .before .before .before .before .before in
-    let t = c .before .before .before .take-next in
+    let t = c .before .before .before .take-first in
     let l = nextFree-below (s .args .nb) (s .args .image .now) 0 (omega (arith, s .pre .0 .few)) in
     let m : t .result .0 < s .args .nb = rw (t .ensures .0) l in
     search needs
@@ -31,7 +31,7 @@ append-direntry-requires : tie.Need-append-direntry-requires
 append-direntry-requires c κs =
     let n = c .before .set-nlinks in
     let p = c .before .before .before .before .before .before .before .before .before .before .before .before .before .before .before .pre in
-    let z : n .result .head .size + 260 ≤ 4294967295 = rw (n .ensures) (p .2) in
+    let z : n .result .head .size + 260 ≤ 4294967295 = rw (n .ensures) (p .3) in
     search needs
 
 same-length : tie.Need-same-length
@@ -40,13 +40,13 @@ same-length c = search needs
 returns : tie.Need-returns
 unfolding madeDir
 returns c =
-    rw (c .before .before .append-direntry .ensures, c .before .before .before .before .set-nlinks .ensures, c .before .before .before .before .before .before .before .entry-of .ensures, c .before .before .before .before .before .before .before .before .before .before .make-empty .ensures, c .before .before .before .before .before .before .before .before .before .before .before .before .before .before .take-next .ensures .0, c .before .before .before .before .before .before .before .before .before .before .before .before .before .before .take-next .ensures .1)
+    rw (c .before .before .append-direntry .ensures, c .before .before .before .before .set-nlinks .ensures, c .before .before .before .before .before .before .before .entry-of .ensures, c .before .before .before .before .before .before .before .before .before .before .make-empty .ensures, c .before .before .before .before .before .before .before .before .before .before .before .before .before .before .take-first .ensures .0, c .before .before .before .before .before .before .before .before .before .before .before .before .before .before .take-first .ensures .1)
 
 pub make-dir-spec : {M : Type 1} → statement M
 make-dir-spec =
     tie.close
     (tie.spec
-    take-next-requires
+    take-first-requires
     make-empty-requires
     entry-of-requires
     add-set-nlinks

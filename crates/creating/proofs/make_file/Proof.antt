@@ -7,8 +7,8 @@ use borrow.Author.Needs.{needs}
 use Rattle.creating.proofs.make_file.Statement.{statement}
 use Rattle.creating.proofs.make_file.Tie as tie
 
-take-next-requires : tie.Need-take-next-requires
-take-next-requires c κs = search needs
+take-first-requires : tie.Need-take-first-requires
+take-first-requires c κs = search needs
 
 new-requires : tie.Need-new-requires
 new-requires c κs = search needs
@@ -19,7 +19,7 @@ set-nlinks-requires c κs = search needs
 encode-requires : tie.Need-encode-requires
 encode-requires c κs =
     let s = c .before .before .before .before .before .before .before .before .before in
-    let t = c .before .before .before .before .before .take-next in
+    let t = c .before .before .before .before .before .take-first in
     let l = nextFree-below (s .args .nb) (s .args .image .now) 0 (omega (arith, s .pre .0 .few)) in
     let m : t .result .0 < s .args .nb = rw (t .ensures .0) l in
     search needs
@@ -28,7 +28,7 @@ entry-of-requires : tie.Need-entry-of-requires
 entry-of-requires c κs = search needs
 
 append-direntry-requires : tie.Need-append-direntry-requires
-append-direntry-requires c κs = search needs
+append-direntry-requires c κs = let p = c .before .before .before .before .before .before .before .before .before .before .before .before .before .before .before .pre .0 in search needs
 
 same-length : tie.Need-same-length
 same-length c = search needs
@@ -36,13 +36,13 @@ same-length c = search needs
 returns : tie.Need-returns
 unfolding madeFile
 returns c =
-    rw (c .before .before .append-direntry .ensures, c .before .before .before .before .before .entry-of .ensures, c .before .before .before .before .before .before .before .before .encode .ensures, c .before .before .before .before .before .before .before .before .before .set-nlinks .ensures, c .before .before .before .before .before .before .before .before .before .before .before .new .ensures, c .before .before .before .before .before .before .before .before .before .before .before .before .before .before .take-next .ensures .0, c .before .before .before .before .before .before .before .before .before .before .before .before .before .before .take-next .ensures .1)
+    rw (c .before .before .append-direntry .ensures, c .before .before .before .before .before .entry-of .ensures, c .before .before .before .before .before .before .before .before .encode .ensures, c .before .before .before .before .before .before .before .before .before .set-nlinks .ensures, c .before .before .before .before .before .before .before .before .before .before .before .new .ensures, c .before .before .before .before .before .before .before .before .before .before .before .before .before .before .take-first .ensures .0, c .before .before .before .before .before .before .before .before .before .before .before .before .before .before .take-first .ensures .1)
 
 pub make-file-spec : {M : Type 1} → statement M
 make-file-spec =
     tie.close
     (tie.spec
-    take-next-requires
+    take-first-requires
     new-requires
     set-nlinks-requires
     encode-requires
