@@ -25,6 +25,11 @@ dir-no File e = absurd (no-true e)
 dir-no Dir e = refl
 dir-no SymLink e = absurd (no-true e)
 
+pub dir-is : (t : FileType) → kindNo t ≡ 2 → isDir t ≡ true
+dir-is File e = absurd (omega (arith, e))
+dir-is Dir e = refl
+dir-is SymLink e = absurd (omega (arith, e))
+
 pub dir-kind : (img : List ℕ) (n : ℕ) (h : Head) → decoded img n ≡ Good h → isDir (h .«type_») ≡ true → kind img n ≡ 2
 dir-kind img n h q d = sym (head-is img n h q .kind-is) ∙ dir-no (h .«type_») d
 

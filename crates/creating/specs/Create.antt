@@ -35,7 +35,7 @@ fileKind k = pick (eqb k 1) File SymLink
 abbrev pub freshInode : ℕ → List ℕ → ℕ
 freshInode nb img = nextFree nb img 0
 
--- a block from which a search finds the same one
+-- a search from there finds the same block: none below is free
 pub record NoneBelow (nb : ℕ) (img : List ℕ) (from : ℕ) : Type 0 where
   pub within : from ≤ nb
   pub same : lowest img from nb ≡ lowest img 0 nb

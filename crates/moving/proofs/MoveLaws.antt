@@ -10,9 +10,7 @@ use borrow.Author.Tests.{ltb-true, eqb-false, eq-eqb, ne-eqb}
 use Rattle.words.specs.Words.{pick, Bytes}
 use Rattle.words.proofs.Numbers.{num-lt}
 use Rattle.layout.specs.Super.{blocks, unused}
-use Rattle.layout.specs.Inode.{kind, links, kindNo, decoded}
-use Rattle.layout.specs.declared.inode.FileType.{FileType}
-use Rattle.layout.specs.declared.inode.FileType.the-variants.{File, Dir, SymLink}
+use Rattle.layout.specs.Inode.{kind, links, decoded}
 use Rattle.layout.specs.declared.inode.Head.{Head}
 use Rattle.layout.specs.declared.inode.Decoded.the-variants.{Good, BadKind}
 use Rattle.card.specs.View.{entries, entry}
@@ -29,7 +27,7 @@ use Rattle.acts.specs.declared.Acted.{Acted}
 use Rattle.acts.specs.declared.Acted.the-variants.{Done, NotDir, IsDir, BadName, EntryExist, EntryNotFound, InvalidParam, TooManyLinks, NoDeviceSpace}
 use Rattle.acts.proofs.Ready.{sizes-whole, below-ready}
 use Rattle.acts.proofs.Heads.{dirOf, dir-bad, dir-yes, head-is, head-small}
-use Rattle.acts.proofs.Dirs.{dir-kind, dir-least, entry-small, named-reached}
+use Rattle.acts.proofs.Dirs.{dir-is, dir-kind, dir-least, entry-small, named-reached}
 use Rattle.acts.proofs.Refused.{
   Refused,
   Plain,
@@ -85,13 +83,6 @@ module _ (nb : ℕ) (img : List ℕ) (c : ℕ) (g : Head) (t : ℕ) (h : Head) w
   unfolding moveRoom
   room-plain =
       plain-pick (isDir (g .«type_»)) dirRoom room (plain-pick (climbs img c t nb) InvalidParam linksRoom refl plain-links) plain-fits
-
--- ---- what was done has been through its tests
-
-kind-dir : (t : FileType) → kindNo t ≡ 2 → isDir t ≡ true
-kind-dir File e = absurd (omega (arith, e))
-kind-dir Dir e = refl
-kind-dir SymLink e = absurd (omega (arith, e))
 
 -- ---- the tests in their order
 
@@ -234,7 +225,7 @@ module _ (nb : ℕ) (img : List ℕ) (p : ℕ) (old : List ℕ) (t : ℕ) where
 
         not-full : kind img (namedBy img p old) ≡ 2 → links img t ≡ fullLinks → ⊥
         not-full q e =
-            let d = kind-dir (by-child .head .«type_») (head-is img (namedBy img p old) (by-child .head) (by-child .good) .kind-is ∙ q) in
+            let d = dir-is (by-child .head .«type_») (head-is img (namedBy img p old) (by-child .head) (by-child .good) .kind-is ∙ q) in
             room-open nb img (namedBy img p old) (by-child .head) t targetHead (by-child .rest) d
             (head-is img t targetHead (by-target .good) .links-is ∙ e)
 

@@ -92,5 +92,6 @@ movedAt nb img p k t new =
     ofHead (decoded img t) img
     (λ h. ofHead (decoded img (entry img p k)) img (λ g. moved nb p s k (entry img p k) g t h new img)))
 
+-- the entry that has the name `old`; where a test refuses, the card stays
 unfoldable pub moveCard : ℕ → List ℕ → ℕ → List ℕ → ℕ → List ℕ → List ℕ
 moveCard nb img p old t new = ifDone (moveAnswer nb img p old t new) (movedAt nb img p (whereIs img p old) t new) img

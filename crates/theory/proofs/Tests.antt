@@ -38,11 +38,6 @@ use Rattle.theory.proofs.Requests.{OfKind, kinds}
 
 -- ---- kinds
 
-pub dir-is : (k : FileType) → kindNo k ≡ 2 → isDir k ≡ true
-dir-is File e = absurd (omega arith)
-dir-is Dir e = refl
-dir-is SymLink e = absurd (omega arith)
-
 pub dir-not : (k : FileType) → kindNo k ≢ 2 → isDir k ≡ false
 dir-not File d = refl
 dir-not Dir d = absurd (d refl)

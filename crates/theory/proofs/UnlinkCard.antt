@@ -34,6 +34,7 @@ use Rattle.entries.proofs.Lookup.{where-hit}
 use Rattle.acts.specs.Answers.{actedNo, namedBy}
 use Rattle.unlinking.specs.Unlink.{linksLeft, parentLess, dropped, unlinked, unlinkAnswer, unlinkedAt, unlinkCard}
 use Rattle.acts.specs.declared.Acted.the-variants.{Done}
+use Rattle.acts.proofs.Dirs.{dir-is}
 use Rattle.theory.proofs.Requests.{of-kind}
 use Rattle.theory.proofs.Counts.{subs-none}
 use Rattle.theory.proofs.TreeStep.{Parent}
@@ -43,7 +44,7 @@ use Rattle.theory.proofs.Links.{Relinked, links-only}
 use Rattle.theory.proofs.Remove.{Removed, inodeAt-same, remove-entry}
 use Rattle.theory.proofs.EntryCounts.{EntryLess, names-less, gone-less, parent-less}
 use Rattle.theory.proofs.DropCard.{DroppedCard, drop-inode}
-use Rattle.theory.proofs.Tests.{dir-is, dir-not}
+use Rattle.theory.proofs.Tests.{dir-not}
 use Rattle.theory.proofs.UnlinkTests.{Target, target}
 use Rattle.theory.proofs.UnlinkSteps.{Cut, beside, less-held, less-unused, less-use, own-byte, own-count, own-held, own-kind, own-links, own-size, parent-entries, parent-links, parent-shrinks}
 

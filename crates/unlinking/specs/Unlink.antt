@@ -60,5 +60,6 @@ unlinkedAt nb img p k =
     ofHead (decoded img (entry img p k)) img
     (λ g. unlinked nb p (recordWith img p h) k (entry img p k) (recordWith img (entry img p k) g) img))
 
+-- the entry that has the name; where a test refuses, the card stays
 unfoldable pub unlinkCard : ℕ → List ℕ → ℕ → List ℕ → List ℕ
 unlinkCard nb img p x = ifDone (unlinkAnswer img p x) (unlinkedAt nb img p (whereIs img p x)) img
