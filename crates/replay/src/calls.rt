@@ -2,12 +2,12 @@
 use crate::frame::Frame;
 use crate::frame::Got;
 use crate::made;
-use dir_calls;
-use file_calls;
-use layout::INodeId;
-use look_calls;
-use said;
-use said::Said;
+use call_dirs;
+use call_files;
+use call_looks;
+use call_said;
+use call_said::Said;
+use card_layout::INodeId;
 use sfs::c_looks;
 
 pub const FORMAT: u32 = 3;
@@ -39,8 +39,8 @@ const UNREAD: u8 = 0xa5;
 
 fn told(r: Said, bytes: u32) -> Got {
     Got {
-        number: said::number_of(r),
-        a: said::value_of(r),
+        number: call_said::number_of(r),
+        a: call_said::value_of(r),
         b: 0,
         c: 0,
         d: 0,
@@ -61,7 +61,7 @@ fn nothing() -> Got {
 }
 
 fn check(image: &[u8], scratch: &mut [u32]) -> Got {
-    let r = walk::check(image, scratch);
+    let r = check_walk::check(image, scratch);
     Got {
         number: sfs::status_of(r),
         a: sfs::blocks_of(r),
@@ -73,10 +73,10 @@ fn check(image: &[u8], scratch: &mut [u32]) -> Got {
 }
 
 fn metadata(image: &[u8], scratch: &mut [u32], n: u32) -> Got {
-    let d = look_calls::metadata(image, scratch, INodeId(n));
+    let d = call_looks::metadata(image, scratch, INodeId(n));
     let r = d.said;
     Got {
-        number: said::number_of(r),
+        number: call_said::number_of(r),
         a: d.kind,
         b: d.size,
         c: d.blocks,
@@ -87,12 +87,12 @@ fn metadata(image: &[u8], scratch: &mut [u32], n: u32) -> Got {
 
 // Its value is the length of the name in the entry.
 fn entry(image: &[u8], scratch: &mut [u32], p: u32, k: u64) -> Got {
-    let l = look_calls::entry(image, scratch, INodeId(p), k);
+    let l = call_looks::entry(image, scratch, INodeId(p), k);
     let r = l.said;
     let e = l.entry;
     let name = c_looks::sfs_entry_name(&e);
     Got {
-        number: said::number_of(r),
+        number: call_said::number_of(r),
         a: short(name),
         b: 0,
         c: 0,
@@ -107,44 +107,44 @@ fn short(n: usize) -> u32 {
 
 fn find(image: &[u8], scratch: &mut [u32], p: u32, x: &mut [u8]) -> Got {
     io::read_full(0, x);
-    let r = look_calls::find(image, scratch, INodeId(p), x);
+    let r = call_looks::find(image, scratch, INodeId(p), x);
     told(r, 0)
 }
 
 fn read(image: &[u8], scratch: &mut [u32], n: u32, off: u64, x: &mut [u8]) -> Got {
     made::set_all(x, UNREAD);
-    let r = file_calls::read(image, scratch, INodeId(n), off, x);
+    let r = call_files::read(image, scratch, INodeId(n), off, x);
     told(r, made::sum(x))
 }
 
 fn write(f: Frame, image: &mut [u8], scratch: &mut [u32], x: &mut [u8]) -> Got {
     made::fill(x, f.seed);
-    let r = file_calls::write(image, scratch, INodeId(f.inode), f.at, x);
+    let r = call_files::write(image, scratch, INodeId(f.inode), f.at, x);
     told(r, 0)
 }
 
 fn create(f: Frame, image: &mut [u8], scratch: &mut [u32], x: &mut [u8]) -> Got {
     io::read_full(0, x);
-    let r = dir_calls::create(image, scratch, INodeId(f.inode), x, f.other);
+    let r = call_dirs::create(image, scratch, INodeId(f.inode), x, f.other);
     told(r, 0)
 }
 
 fn link(f: Frame, image: &mut [u8], scratch: &mut [u32], x: &mut [u8]) -> Got {
     io::read_full(0, x);
-    let r = dir_calls::link(image, scratch, INodeId(f.inode), x, INodeId(f.other));
+    let r = call_dirs::link(image, scratch, INodeId(f.inode), x, INodeId(f.other));
     told(r, 0)
 }
 
 fn unlink(f: Frame, image: &mut [u8], scratch: &mut [u32], x: &mut [u8]) -> Got {
     io::read_full(0, x);
-    let r = dir_calls::unlink(image, scratch, INodeId(f.inode), x);
+    let r = call_dirs::unlink(image, scratch, INodeId(f.inode), x);
     told(r, 0)
 }
 
 fn move_(f: Frame, image: &mut [u8], scratch: &mut [u32], x: &mut [u8], y: &mut [u8]) -> Got {
     io::read_full(0, x);
     io::read_full(0, y);
-    let r = dir_calls::move_(image, scratch, INodeId(f.inode), x, INodeId(f.other), y);
+    let r = call_dirs::move_(image, scratch, INodeId(f.inode), x, INodeId(f.other), y);
     told(r, 0)
 }
 
@@ -164,10 +164,10 @@ fn look(f: Frame, image: &[u8], scratch: &mut [u32], x: &mut [u8]) -> Got {
 pub fn put(f: Frame, image: &mut [u8], scratch: &mut [u32], x: &mut [u8], y: &mut [u8]) -> Got {
     let op = f.op;
     match op {
-        FORMAT => told(dir_calls::format(image, f.at), 0),
+        FORMAT => told(call_dirs::format(image, f.at), 0),
         WRITE => write(f, image, scratch, x),
         RESIZE => told(
-            file_calls::resize(image, scratch, INodeId(f.inode), f.at),
+            call_files::resize(image, scratch, INodeId(f.inode), f.at),
             0,
         ),
         CREATE => create(f, image, scratch, x),

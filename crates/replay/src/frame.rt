@@ -2,7 +2,7 @@
 use words::get32;
 use words::get64;
 
-// What a call gives: 01's number, its values, and the sum of the bytes that it hands back, 0 where there are none.
+// What a call gives: RULES' number, its values, and the sum of the bytes that it hands back, 0 where there are none.
 pub struct Got {
     pub number: u32,
     pub a: u32,

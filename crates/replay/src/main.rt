@@ -1,9 +1,9 @@
 // Runs a recording of calls and of what the unchanged Rust answered to them (tests/replay) through the library, and prints how many
 // cards and calls it has, and how many calls agree: in the number, in every value, and in the sums of the card and of what is read.
-ghost use Prim.Native.Nat.{_≤_};
 ghost use mathlib.Core.Path.{_≡_};
 ghost use lib.ListN.{length};
 use crate::frame::Frame;
+use words::order;
 
 mod calls;
 mod frame;
@@ -31,12 +31,6 @@ fn room() -> [u8; 266240]
     [0; 266240]
 }
 
-fn least(a: usize, b: usize) -> usize
-    ensures { λ r. ⌜ (r ≤ a) × (r ≤ b) ⌝ }
-{
-    if a < b { a } else { b }
-}
-
 // A new card of zeros, or of bytes made from a seed.
 fn start(image: &mut [u8], seed: u32) {
     if seed == 0 {
@@ -53,8 +47,8 @@ fn more(n: u64) -> u64 {
 
 // As many bytes of the recording as are asked for and fit go to the card.
 fn put_bytes(image: &mut [u8], at: u64, long: usize) {
-    let a = least(at as usize, image.len());
-    let n = least(long, image.len() - a);
+    let a = order::least(at as usize, image.len());
+    let n = order::least(long, image.len() - a);
     let e = a + n;
     io::read_full(0, &mut image[a..e]);
 }
@@ -70,7 +64,7 @@ fn agrees(f: Frame, image: &mut [u8], scratch: &mut [u32], x: &mut [u8], y: &mut
 }
 
 fn new_card(mut t: Tally, f: Frame, image: &mut [u8]) -> Tally {
-    let n = least(f.long, image.len());
+    let n = order::least(f.long, image.len());
     start(&mut image[0..n], f.seed);
     t.len = n;
     t.cards = more(t.cards);
@@ -85,10 +79,10 @@ fn one_call(
     x: &mut [u8],
     y: &mut [u8],
 ) -> Tally {
-    let n = least(t.len, image.len());
-    let w = least(f.scratch, scratch.len());
-    let j = least(f.long, x.len());
-    let k = least(f.more, y.len());
+    let n = order::least(t.len, image.len());
+    let w = order::least(f.scratch, scratch.len());
+    let j = order::least(f.long, x.len());
+    let k = order::least(f.more, y.len());
     t.calls = more(t.calls);
     if agrees(
         f,

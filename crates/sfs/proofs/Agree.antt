@@ -4,15 +4,15 @@ use Prim.Native.Nat.{ℕ}
 use mathlib.Core.Path.{_≡_, refl, sym, ap, _∙_}
 use mathlib.Core.List.{List}
 use lib.ListN.{length}
-use Rattle.layout.specs.Super.{blocks}
-use Rattle.files.specs.Requests.{resizeAnswer, resizeCard, writeAnswer, writeCard, readAnswer, readBuffer}
-use Rattle.walk.specs.declared.Opened.{Opened}
-use Rattle.walk.specs.Opening.{Opening}
-use Rattle.walk.proofs.Agree.{agree}
-use Rattle.said.specs.Said.{saidNo, saidValue, ifOpen, ofOpened, ofFiled}
-use Rattle.file_calls.specs.FileCalls.{Read, Written, Sized}
-use Rattle.sfs.specs.FileCallsC.{ReadC, WrittenC, SizedC}
-use Rattle.said.specs.declared.Said.{Said}
+use Rattle.card_layout.specs.Super.{blocks}
+use Rattle.file_requests.specs.Requests.{resizeAnswer, resizeCard, writeAnswer, writeCard, readAnswer, readBuffer}
+use Rattle.check_walk.specs.declared.Opened.{Opened}
+use Rattle.check_walk.specs.Opening.{Opening}
+use Rattle.check_walk.proofs.Agree.{agree}
+use Rattle.call_said.specs.Said.{saidNo, saidValue, ifOpen, ofOpened, ofFiled}
+use Rattle.call_files.specs.FileCalls.{Read, Written, Resized}
+use Rattle.sfs.specs.FileCallsC.{ReadC, WrittenC, ResizedC}
+use Rattle.call_said.specs.declared.Said.{Said}
 
 -- what depends on the opening alone is the same of two openings
 pub by-opening : {A : Type 0} (f : Opened → A) {o p : Opened} {x y : A} → o ≡ p → x ≡ f o → y ≡ f p → x ≡ y
@@ -87,7 +87,7 @@ module _ {img s s₁ s₂ : List ℕ} {n : ℕ} where
   -- ---- resize: the image
 
   module _ {x₁ x₂ : List ℕ} {len : ℕ} where
-    pub resize-agrees : {r₁ r₂ : Said} → Sized img x₁ s s₁ n len r₁ → Sized img x₂ s s₂ n len r₂ → Same r₁ r₂ x₁ x₂ s₁ s₂
+    pub resize-agrees : {r₁ r₂ : Said} → Resized img x₁ s s₁ n len r₁ → Resized img x₂ s s₂ n len r₂ → Same r₁ r₂ x₁ x₂ s₁ s₂
     resize-agrees a b =
         same (a .opening) (b .opening) (λ o. ifOpen o (ofFiled (resizeAnswer img n len)) (ofOpened o))
         (λ o. ifOpen o (resizeCard (blocks img) img n len) img)
@@ -96,5 +96,5 @@ module _ {img s s₁ s₂ : List ℕ} {n : ℕ} where
         (a .image)
         (b .image)
 
-    pub resize-c-agrees : {a₁ a₂ : ℕ} → SizedC img x₁ s s₁ n len a₁ → SizedC img x₂ s s₂ n len a₂ → SameC a₁ a₂ 0 0 x₁ x₂ s₁ s₂
+    pub resize-c-agrees : {a₁ a₂ : ℕ} → ResizedC img x₁ s s₁ n len a₁ → ResizedC img x₂ s s₂ n len a₂ → SameC a₁ a₂ 0 0 x₁ x₂ s₁ s₂
     resize-c-agrees a b = no-value (resize-agrees (a .call) (b .call)) (a .status-is) (b .status-is)

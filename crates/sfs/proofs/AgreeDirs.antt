@@ -3,20 +3,20 @@
 use Prim.Native.Nat.{ℕ}
 use mathlib.Core.Path.{_≡_, refl, sym, ap, _∙_}
 use mathlib.Core.List.{List}
-use Rattle.layout.specs.Super.{blocks}
-use Rattle.layout.specs.Inode.{size, kind, links, count}
-use Rattle.creating.specs.Create.{createAnswer, createCard}
-use Rattle.linking.specs.Link.{linkAnswer, linkCard}
-use Rattle.unlinking.specs.Unlink.{unlinkAnswer, unlinkCard}
-use Rattle.moving.specs.Move.{moveAnswer, moveCard}
-use Rattle.looking.specs.Look.{findAnswer, entryAnswer, noEntry, entryBytes}
-use Rattle.walk.proofs.Agree.{agree}
-use Rattle.said.specs.Said.{saidNo, ifOpen, ofOpened, ofActed}
-use Rattle.dir_calls.specs.DirCalls.{Created, Linked, Unlinked, Moved, Formatted}
-use Rattle.look_calls.specs.LookCalls.{Found, Listed, Described}
+use Rattle.card_layout.specs.Super.{blocks}
+use Rattle.card_layout.specs.Inode.{size, kind, links, count}
+use Rattle.dir_create.specs.Create.{createAnswer, createCard}
+use Rattle.dir_link.specs.Link.{linkAnswer, linkCard}
+use Rattle.dir_unlink.specs.Unlink.{unlinkAnswer, unlinkCard}
+use Rattle.dir_move.specs.Move.{moveAnswer, moveCard}
+use Rattle.dir_look.specs.Look.{findAnswer, entryAnswer, noEntry, entryBytes}
+use Rattle.check_walk.proofs.Agree.{agree}
+use Rattle.call_said.specs.Said.{saidNo, ifOpen, ofOpened, ofActed}
+use Rattle.call_dirs.specs.DirCalls.{Created, Linked, Unlinked, Moved, Formatted}
+use Rattle.call_looks.specs.LookCalls.{Found, Listed, Described}
 use Rattle.sfs.specs.DirCallsC.{CreatedC, LinkedC, UnlinkedC, MovedC, FoundC, ListedC, DescribedC, FormattedC}
-use Rattle.said.specs.declared.Said.{Said}
-use Rattle.said.specs.declared.Said.the-variants.{Done}
+use Rattle.call_said.specs.declared.Said.{Said}
+use Rattle.call_said.specs.declared.Said.the-variants.{Done}
 use Rattle.sfs.proofs.Agree.{by-opening, Same, SameC, same, same-c, no-value}
 
 -- ---- the calls that change the image
@@ -100,7 +100,7 @@ module _ {img s s₁ s₂ e₁ e₂ : List ℕ} {p k : ℕ} where
   pub entry-agrees : {r₁ r₂ : Said} → Listed img s s₁ p k r₁ e₁ → Listed img s s₂ p k r₂ e₂ → Same r₁ r₂ e₁ e₂ s₁ s₂
   entry-agrees a b =
       same (a .opening) (b .opening) (λ o. ifOpen o (ofActed (entryAnswer img p k)) (ofOpened o))
-      (λ o. ifOpen o (entryBytes (blocks img) img p k) noEntry)
+      (λ o. ifOpen o (entryBytes img p k) noEntry)
       (a .said)
       (b .said)
       (a .bytes)
@@ -122,7 +122,7 @@ module _ {img s s₁ s₂ : List ℕ} {n k₁ z₁ b₁ l₁ k₂ z₂ b₂ l₂
       → (r₁ ≡ r₂) × SameFour k₁ z₁ b₁ l₁ k₂ z₂ b₂ l₂ s₁ s₂
   metadata-agrees a b =
       let q = agree (a .opening) (b .opening) in (
-        by-opening (λ o. ifOpen o (Done 0) (ofOpened o)) (q .0) (a .said) (b .said),
+        by-opening (λ o. ifOpen o Done (ofOpened o)) (q .0) (a .said) (b .said),
         record {
           kind = by-opening (λ o. ifOpen o (kind img n) 0) (q .0) (a .kind-is) (b .kind-is);
           size = by-opening (λ o. ifOpen o (size img n) 0) (q .0) (a .size-is) (b .size-is);

@@ -2,10 +2,10 @@
 use Prim.Native.Nat.{ℕ}
 use mathlib.Core.Path.{_≡_}
 use mathlib.Core.List.{List}
-use Rattle.said.specs.Said.{saidNo, saidValue}
-use Rattle.dir_calls.specs.DirCalls.{Created, Linked, Unlinked, Moved, Formatted}
-use Rattle.look_calls.specs.LookCalls.{Found, Listed, Described}
-use Rattle.said.specs.declared.Said.{Said}
+use Rattle.call_said.specs.Said.{saidNo, saidValue}
+use Rattle.call_dirs.specs.DirCalls.{Created, Linked, Unlinked, Moved, Formatted}
+use Rattle.call_looks.specs.LookCalls.{Found, Listed, Described}
+use Rattle.call_said.specs.declared.Said.{Said}
 
 pub record CreatedC (img img′ s s′ : List ℕ) (p : ℕ) (x : List ℕ) (k status number : ℕ) : Type 0 where
   pub answer : Said

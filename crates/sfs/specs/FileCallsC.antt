@@ -2,9 +2,9 @@
 use Prim.Native.Nat.{ℕ}
 use mathlib.Core.Path.{_≡_}
 use mathlib.Core.List.{List}
-use Rattle.said.specs.Said.{saidNo, saidValue}
-use Rattle.file_calls.specs.FileCalls.{Read, Written, Sized}
-use Rattle.said.specs.declared.Said.{Said}
+use Rattle.call_said.specs.Said.{saidNo, saidValue}
+use Rattle.call_files.specs.FileCalls.{Read, Written, Resized}
+use Rattle.call_said.specs.declared.Said.{Said}
 
 pub record ReadC (img s s′ buf buf′ : List ℕ) (n off status count : ℕ) : Type 0 where
   pub answer : Said
@@ -18,7 +18,7 @@ pub record WrittenC (img img′ s s′ src : List ℕ) (n off status count : ℕ
   pub status-is : status ≡ saidNo answer
   pub count-is : count ≡ saidValue answer
 
-pub record SizedC (img img′ s s′ : List ℕ) (n len status : ℕ) : Type 0 where
+pub record ResizedC (img img′ s s′ : List ℕ) (n len status : ℕ) : Type 0 where
   pub answer : Said
-  pub call : Sized img img′ s s′ n len answer
+  pub call : Resized img img′ s s′ n len answer
   pub status-is : status ≡ saidNo answer

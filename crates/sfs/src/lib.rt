@@ -1,14 +1,15 @@
 // The C interface of the library (include/sfs.h): each function covers a proved call and has its statement.
 ghost use mathlib.Core.Path.{_≡_};
-ghost use Rattle.walk.specs.Opening.{statusOf, blocksOf, unusedOf};
+ghost use Rattle.check_walk.specs.Opening.{statusOf, blocksOf, unusedOf};
 ghost use Rattle.sfs.specs.Check.{Checked};
-use walk::Opened;
+use check_walk::Opened;
 
+pub mod c_cache;
 pub mod c_dirs;
 pub mod c_files;
 pub mod c_looks;
 
-// 01's number of an answer.
+// RULES' number of an answer.
 pub fn status_of(r: Opened) -> u32
     ensures { λ x. ⌜ x ≡ statusOf r ⌝ }
 {
@@ -55,7 +56,7 @@ pub extern "C" fn sfs_check(
 ) -> u32
     ensures { λ r. ⌜ Checked (now (image .entry)) (now (scratch .entry)) (now (scratch .exit)) r (now (blocks .exit)) (now (unused .exit)) ⌝ }
 {
-    let r = walk::check(image, scratch);
+    let r = check_walk::check(image, scratch);
     *blocks = blocks_of(r);
     *unused = unused_of(r);
     status_of(r)

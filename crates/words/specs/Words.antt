@@ -53,3 +53,7 @@ Apart a m b n = a < b + n → b < a + m → ⊥
 abbrev pub When : Bool → Type 0 → Type 0 → Type 0
 When true A B = A
 When false A B = B
+
+-- what a function that answers whether A holds says
+abbrev pub Tells : Bool → Type 0 → Type 0
+Tells r A = When r A (A → ⊥)

@@ -1,4 +1,6 @@
 // Little-endian numbers at a place of a lent byte slice, and runs of bytes.
+pub mod order;
+
 ghost use mathlib.Core.Path.{_≡_};
 ghost use Prim.Native.Nat.{_+_, _*_, _≤_, _<_};
 ghost use lib.ListN.{length};

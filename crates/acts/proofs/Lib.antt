@@ -1,4 +1,0 @@
-pub mod Ready
-pub mod Heads
-pub mod Refused
-pub mod Dirs

@@ -1,1 +1,0 @@
-// The card of document 01 as a reader sees it: definitions in specs/, what follows from them in proofs/. There is no code here.

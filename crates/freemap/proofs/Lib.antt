@@ -1,4 +1,0 @@
-pub mod Bits
-pub mod Map
-pub mod First
-pub mod Laws

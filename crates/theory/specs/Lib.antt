@@ -1,5 +1,0 @@
-pub mod Days
-pub mod Calls
-pub mod Frame
-pub mod Made
-pub mod Examples
