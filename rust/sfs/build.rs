@@ -9,9 +9,11 @@ fn main() {
         Some(path) => PathBuf::from(path),
         None => made_here(),
     };
-    if !archive.is_file() {
-        panic!("{} is no file: set SFS_LIB to libsfs.a", archive.display());
-    }
+    assert!(
+        archive.is_file(),
+        "{} is no file: set SFS_LIB to libsfs.a",
+        archive.display()
+    );
     println!("cargo:rerun-if-changed={}", archive.display());
     let folder = archive.canonicalize().expect("the archive's place").with_file_name("");
     println!("cargo:rustc-link-search=native={}", folder.display());
@@ -30,9 +32,10 @@ fn link_name(archive: &Path) -> &str {
 /// Proves the library and makes its archive, with the Rattle kit.
 fn made_here() -> PathBuf {
     let target = env::var("CARGO_CFG_TARGET_ARCH").unwrap_or_default();
-    if target != "x86_64" {
-        panic!("`rt` makes libsfs.a for x86-64 only, and this is a build for {target}: `make` at the repository's root builds for x86-64 here");
-    }
+    assert!(
+        target == "x86_64",
+        "`rt` makes libsfs.a for x86-64 only, and this is a build for {target}: `make` at the repository's root builds for x86-64 here"
+    );
     let root = Path::new(&env::var("CARGO_MANIFEST_DIR").expect("cargo runs this")).join("../..");
     println!("cargo:rerun-if-changed={}", root.join("crates").display());
     println!("cargo:rerun-if-changed={}", root.join("crates.txt").display());

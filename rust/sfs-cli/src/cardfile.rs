@@ -9,14 +9,13 @@
 //! leaves a part of a change.
 
 use crate::failure::Failure;
-use crate::path;
 use crate::sys::{self, Map, SignalsHeld};
-use sfs::{Card, Error, INodeId, BLOCK, MAX_BLOCKS};
+use sfs::{Card, BLOCK_SIZE, MAX_BLOCKS};
 use std::ffi::OsStr;
-use std::fs::{File, OpenOptions};
+use std::fs::{File, Metadata, OpenOptions};
 use std::io::{self, Seek, SeekFrom};
 use std::ops::Range;
-use std::os::unix::fs::FileExt;
+use std::os::unix::fs::{FileExt, MetadataExt};
 use std::path::{Path, PathBuf};
 
 pub struct CardFile {
@@ -29,13 +28,13 @@ pub struct CardFile {
 impl CardFile {
     /// For commands that change nothing.
     pub fn read(path: &OsStr) -> Result<CardFile, Failure> {
-        let file = File::open(path).map_err(|e| Failure::host(path.to_string_lossy(), &e))?;
+        let file = File::open(path).map_err(|e| not_opened(path, &e))?;
         CardFile::of(file, path, false)
     }
 
     pub fn write(path: &OsStr) -> Result<CardFile, Failure> {
         let file = OpenOptions::new().read(true).write(true).open(path);
-        CardFile::of(file.map_err(|e| Failure::host(path.to_string_lossy(), &e))?, path, true)
+        CardFile::of(file.map_err(|e| not_opened(path, &e))?, path, true)
     }
 
     pub fn of(mut file: File, path: &OsStr, exclusive: bool) -> Result<CardFile, Failure> {
@@ -49,7 +48,8 @@ impl CardFile {
         }
         let opened = sys::lock(&file, exclusive).and_then(|()| {
             // Not by its metadata: a device has its length at its end only.
-            let len = file.seek(SeekFrom::End(0))?.min(u64::from(MAX_BLOCKS) * BLOCK as u64) as usize;
+            let len = usize::try_from(file.seek(SeekFrom::End(0))?).unwrap_or(usize::MAX);
+            let len = len.min(MAX_BLOCKS as usize * BLOCK_SIZE);
             Ok((Map::private(&file, len)?, len))
         });
         let (map, len) = opened.map_err(|e| Failure::host(path.display(), &e))?;
@@ -65,27 +65,10 @@ impl CardFile {
         &self.path
     }
 
-    /// How messages name a place on the card.
-    pub fn at(&self, path: &OsStr) -> String {
-        format!("{}:{}", self.path.display(), path.to_string_lossy())
-    }
-
-    /// A refusal about a path on the card.
-    pub fn refused(&self, path: &OsStr, error: Error) -> Failure {
-        match error {
-            // These are about the card.
-            Error::WrongFs | Error::Damaged => Failure::refused(self.path.display(), error),
-            _ => Failure::refused(self.at(path), error),
-        }
-    }
-
-    pub fn find(&self, path: &OsStr) -> Result<INodeId, Failure> {
-        path::find(&self.card, path).map_err(|e| self.refused(path, e))
-    }
-
-    /// The directory that a path leads to, and the last name.
-    pub fn parent<'p>(&self, path: &'p OsStr) -> Result<(INodeId, &'p [u8]), Failure> {
-        path::parent(&self.card, path).map_err(|e| self.refused(path, e))
+    /// Whether that is the card's own file.
+    pub fn is_at(&self, place: &Metadata) -> bool {
+        let same = |own: Metadata| (own.dev(), own.ino()) == (place.dev(), place.ino());
+        self.file.metadata().map_or(false, same)
     }
 
     /// Writes the changed blocks to the file.
@@ -131,25 +114,33 @@ impl CardFile {
     fn changed(&self) -> io::Result<(Vec<Run>, Vec<Run>)> {
         let (mut fresh, mut used) = (Vec::new(), Vec::new());
         let image = self.card.image();
-        let mut map = vec![0; BLOCK];
-        if image.len() >= 3 * BLOCK {
-            self.file.read_exact_at(&mut map, 2 * BLOCK as u64)?;
+        let mut map = vec![0; BLOCK_SIZE];
+        if image.len() >= 3 * BLOCK_SIZE {
+            self.file.read_exact_at(&mut map, 2 * BLOCK_SIZE as u64)?;
         }
-        let mut old = vec![0; 256 * BLOCK];
+        let mut old = vec![0; 256 * BLOCK_SIZE];
         for (i, new) in image.chunks(old.len()).enumerate() {
             let start = i * old.len();
             let old = &mut old[..new.len()];
             self.file.read_exact_at(old, start as u64)?;
-            for (j, (a, b)) in old.chunks(BLOCK).zip(new.chunks(BLOCK)).enumerate() {
-                let block = start / BLOCK + j;
+            for (j, (a, b)) in old.chunks(BLOCK_SIZE).zip(new.chunks(BLOCK_SIZE)).enumerate() {
+                let block = start / BLOCK_SIZE + j;
                 let is_free = map[block / 8] >> (block % 8) & 1 == 1;
                 if a != b {
-                    let at = block * BLOCK;
+                    let at = block * BLOCK_SIZE;
                     add(if is_free { &mut fresh } else { &mut used }, at..at + b.len());
                 }
             }
         }
         Ok((fresh, used))
+    }
+}
+
+fn not_opened(path: &OsStr, error: &io::Error) -> Failure {
+    let failure = Failure::host(path.to_string_lossy(), error);
+    match error.kind() {
+        io::ErrorKind::NotFound => failure.advise("Give the file of a card. `sfs format` makes a new one."),
+        _ => failure,
     }
 }
 

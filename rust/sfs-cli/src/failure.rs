@@ -10,7 +10,8 @@ const USAGE: u8 = 64;
 const HOST: u8 = 74;
 
 enum Cause {
-    Refused(Error),
+    /// The library's refusal, and why, where that is known better than by its number.
+    Refused(Error, Option<String>),
     /// The machine's own files.
     Host(String),
     Usage(String),
@@ -37,7 +38,13 @@ impl Failure {
 
     /// The library's refusal, with what helps most often.
     pub fn refused(subject: impl Display, error: Error) -> Failure {
-        Failure::new(subject, Cause::Refused(error), advice(error))
+        Failure::new(subject, Cause::Refused(error, None), advice(error))
+    }
+
+    /// The library's refusal with the one cause that it has here, in the place of its sentence for all of them.
+    pub fn refused_as(subject: impl Display, error: Error, why: impl Display, advice: impl Display) -> Failure {
+        let why = clean(why.to_string().as_bytes());
+        Failure::new(subject, Cause::Refused(error, Some(why)), "").advise(advice)
     }
 
     pub fn host(subject: impl Display, error: &io::Error) -> Failure {
@@ -64,6 +71,7 @@ impl Failure {
     }
 
     /// Whoever closed the pipe that we write to has enough.
+    #[allow(clippy::needless_pass_by_value)] // As `map_err` gives it.
     pub fn output(error: io::Error) -> Failure {
         match error.kind() {
             io::ErrorKind::BrokenPipe => Failure::new("", Cause::Silent(0), ""),
@@ -77,8 +85,16 @@ impl Failure {
     }
 
     pub fn advise(mut self, advice: impl Display) -> Failure {
-        self.advice = advice.to_string();
+        self.advice = clean(advice.to_string().as_bytes());
         self
+    }
+
+    /// Other advice, if that is the refusal.
+    pub fn advise_for(self, error: Error, advice: impl Display) -> Failure {
+        match self.cause {
+            Cause::Refused(refusal, _) if refusal == error => self.advise(advice),
+            _ => self,
+        }
     }
 
     /// Adds a sentence to what is advised.
@@ -92,7 +108,7 @@ impl Failure {
 
     pub fn status(&self) -> u8 {
         match self.cause {
-            Cause::Refused(error) => error.number() as u8,
+            Cause::Refused(error, _) => u8::try_from(error.number()).unwrap_or(u8::MAX),
             Cause::Host(_) => HOST,
             Cause::Usage(_) => USAGE,
             Cause::Silent(status) => status,
@@ -101,7 +117,10 @@ impl Failure {
 
     pub fn print(&self) {
         let why = match &self.cause {
-            Cause::Refused(error) => format!("{error} ({} {})", error.number(), error.name()),
+            Cause::Refused(error, why) => {
+                let why = why.clone().unwrap_or_else(|| error.to_string());
+                format!("{why} ({} {})", error.number(), error.name())
+            }
             Cause::Host(why) | Cause::Usage(why) => why.clone(),
             Cause::Silent(_) => return,
         };
@@ -125,7 +144,7 @@ fn advice(error: Error) -> &'static str {
         Error::WrongFs => "Give the file of a card. `sfs format` makes a new card, and loses what the file holds.",
         Error::Damaged => "Nothing was changed. Keep a copy of the file as it is, and go back to one that is whole.",
         Error::NotFile => "Give a file. `sfs get -r` copies a directory, `sfs ls` lists one.",
-        Error::NotDir => "Every part of a path but the last must be a directory; symbolic links are not followed.",
+        Error::NotDir => "Give a directory; symbolic links are not followed.",
         Error::IsDir => "Give the directory by its name.",
         Error::BadName => "Choose a shorter name.",
         Error::EntryExist => "Choose another name, or remove what has it by `sfs rm`.",
@@ -134,5 +153,6 @@ fn advice(error: Error) -> &'static str {
         Error::InvalidParam => "A card has 65,536 to 134,217,728 bytes, a file at most 4,294,967,295.",
         Error::TooManyLinks => "Make a copy instead of a link.",
         Error::NoDeviceSpace => "`sfs df` shows the room. Remove something by `sfs rm`, or use a larger card.",
+        _ => "",
     }
 }

@@ -1,13 +1,13 @@
-//! Which inode owns which block. The library has no call for this, so it is read from the bytes by document 01's
+//! Which inode owns which block. The library has no call for this, so it is read from the bytes by the rules'
 //! layout, after the library found the card whole. Nothing here is proved, and nothing is written; what does not fit
 //! the layout is left out.
 
-use sfs::{BLOCK, ENTRY};
+use sfs::{BLOCK_SIZE, ENTRY_SIZE};
 
 const ROOT: u32 = 1;
 const DIR: u16 = 2;
 const DIRECT: usize = 12;
-const SLOTS: usize = BLOCK / 4;
+const SLOTS: usize = BLOCK_SIZE / 4;
 
 /// An inode with its blocks: its own, its pointer blocks and its data blocks.
 pub struct Owner {
@@ -49,7 +49,7 @@ pub fn path(owners: &[Owner], mut i: usize) -> Vec<u8> {
 
 /// All inodes, the root first, a file with several names by the first one found.
 pub fn owners(image: &[u8]) -> Vec<Owner> {
-    let mut known = vec![false; image.len() / BLOCK];
+    let mut known = vec![false; image.len() / BLOCK_SIZE];
     let mut owners = Vec::new();
     let mut found = vec![(ROOT, 0, Vec::new())];
     while let Some((inode, parent, name)) = found.pop() {
@@ -104,7 +104,7 @@ fn children(image: &[u8], dir: &Owner) -> Vec<(u32, Vec<u8>)> {
     let size = word(block(image, dir.inode), 0) as usize;
     let mut bytes: Vec<u8> = dir.data.iter().flat_map(|&b| block(image, b).iter().copied()).collect();
     bytes.truncate(size);
-    let entries = bytes.chunks_exact(ENTRY).skip(2);
+    let entries = bytes.chunks_exact(ENTRY_SIZE).skip(2);
     entries.map(|entry| (word(entry, 0), before_nul(&entry[4..]))).collect()
 }
 
@@ -114,8 +114,8 @@ fn before_nul(name: &[u8]) -> Vec<u8> {
 
 /// A block's bytes; for a number that is none, zeros.
 fn block(image: &[u8], number: u32) -> &[u8] {
-    let start = number as usize * BLOCK;
-    image.get(start..start + BLOCK).unwrap_or(&[0; BLOCK])
+    let start = number as usize * BLOCK_SIZE;
+    image.get(start..start + BLOCK_SIZE).unwrap_or(&[0; BLOCK_SIZE])
 }
 
 /// The first slots, `wanted` of them or all there are.

@@ -1,11 +1,15 @@
 //! The command `sfs`: card files in the SFS layout, by the proved library. docs/CLI.md shows a day with it.
 
+#![warn(clippy::pedantic)]
+
 mod args;
 mod cardfile;
 mod cmd;
 mod failure;
 mod help;
+mod host;
 mod layout;
+mod lookup;
 mod path;
 mod plan;
 mod progress;
@@ -62,10 +66,11 @@ fn help_for(words: &[OsString], out: &mut dyn Write) -> Result<(), Failure> {
 
 fn run_command(command: &cmd::Command, words: Vec<OsString>, out: &mut dyn Write) -> Result<(), Failure> {
     let usage = |why: &str| {
-        Failure::usage(
+        let failure = Failure::usage(
             command.name,
             &format!("{why}; `sfs {} --help` tells more", command.name),
-        )
+        );
+        failure.advise(command.help.lines().next().unwrap_or(""))
     };
     let args = Args::parse(command.flags, words).map_err(|why| usage(&why))?;
     if args.has("help") {

@@ -17,8 +17,17 @@ pub struct Progress {
 
 impl Progress {
     pub fn new(total: u64) -> Progress {
+        Progress::shown(total, sys::is_terminal(&io::stderr()))
+    }
+
+    /// None, wherever standard error goes.
+    pub fn none() -> Progress {
+        Progress::shown(0, false)
+    }
+
+    fn shown(total: u64, shown: bool) -> Progress {
         Progress {
-            shown: sys::is_terminal(&io::stderr()),
+            shown,
             total,
             done: 0,
             next: Instant::now(),
@@ -37,8 +46,9 @@ impl Progress {
     fn draw(&self, next: &[u8]) {
         let total = self.total.max(1);
         let done = self.done.min(total);
-        let full = (WIDTH * done / total) as usize;
-        let bar = "#".repeat(full) + &".".repeat(WIDTH as usize - full);
+        let bar: String = (0..WIDTH)
+            .map(|i| if i < WIDTH * done / total { '#' } else { '.' })
+            .collect();
         let name: String = clean(next).chars().take(36).collect();
         // A bar that cannot be drawn is no reason to stop.
         let _ = write!(io::stderr(), "\r[{bar}] {:3} % {name}\x1b[K", 100 * done / total);

@@ -1,5 +1,5 @@
-//! The few calls of the C library that Rust's does not have: mapping, locking, holding signals, and asking for a
-//! terminal. All that is unsafe in the command is in this file. For Linux on machines of 64 bits.
+//! The few calls of the C library that Rust's does not have: mapping, locking, holding signals and asking for them,
+//! and asking for a terminal. All that is unsafe in the command is in this file. For Linux on machines of 64 bits.
 
 use std::fs::File;
 use std::io;
@@ -18,10 +18,17 @@ const LOCK_SH: c_int = 1;
 const LOCK_EX: c_int = 2;
 const SIG_BLOCK: c_int = 0;
 const SIG_SETMASK: c_int = 2;
+const SIG_IGN: u64 = 1;
+/// The signals of a closed terminal, of Ctrl-C and Ctrl-\\, of `kill`, and of a file that would be too long.
+const ENDING: [c_int; 5] = [1, 2, 3, 15, 25];
 
-/// 1,024 bits, as in glibc and musl.
+/// 1,024 bits, as in glibc and musl; signals count from 1.
 #[repr(C)]
 struct SigSet([u64; 16]);
+
+/// What is done about a signal, as in glibc and musl: the handler, a set of signals, and flags.
+#[repr(C)]
+struct SigAction([u64; 19]);
 
 extern "C" {
     fn mmap(at: *mut c_void, len: usize, prot: c_int, flags: c_int, fd: c_int, offset: i64) -> *mut c_void;
@@ -30,6 +37,8 @@ extern "C" {
     fn isatty(fd: c_int) -> c_int;
     fn sigfillset(set: *mut SigSet) -> c_int;
     fn sigprocmask(how: c_int, set: *const SigSet, old: *mut SigSet) -> c_int;
+    fn sigpending(set: *mut SigSet) -> c_int;
+    fn sigaction(signal: c_int, new: *const SigAction, old: *mut SigAction) -> c_int;
 }
 
 /// A file's first bytes in memory. Changes stay in memory: the mapping is private.
@@ -107,14 +116,44 @@ pub struct SignalsHeld {
 
 impl SignalsHeld {
     pub fn new() -> SignalsHeld {
-        let (mut all, mut old) = (SigSet([0; 16]), SigSet([0; 16]));
-        // SAFETY: both sets are locals as large as the C library's.
-        unsafe {
-            sigfillset(&mut all);
-            sigprocmask(SIG_BLOCK, &all, &mut old);
-        }
+        let mut all = SigSet([0; 16]);
+        // SAFETY: the set is a local as large as the C library's.
+        unsafe { sigfillset(&mut all) };
+        SignalsHeld::of(&all)
+    }
+
+    /// Only those that end a command, for work that takes long: `is_to_end` is to be asked now and then.
+    pub fn ending() -> SignalsHeld {
+        let mut set = SigSet([0; 16]);
+        set.0[0] = ENDING.iter().fold(0, |bits, signal| bits | bit(*signal));
+        SignalsHeld::of(&set)
+    }
+
+    fn of(set: &SigSet) -> SignalsHeld {
+        let mut old = SigSet([0; 16]);
+        // SAFETY: both sets are as large as the C library's.
+        unsafe { sigprocmask(SIG_BLOCK, set, &mut old) };
         SignalsHeld { old }
     }
+}
+
+fn bit(signal: c_int) -> u64 {
+    1 << (signal - 1)
+}
+
+/// Whether a signal waits that will end the command.
+pub fn is_to_end() -> bool {
+    let mut waiting = SigSet([0; 16]);
+    // SAFETY: the set is a local as large as the C library's.
+    let known = unsafe { sigpending(&mut waiting) } == 0;
+    let is_waiting = |signal: c_int| waiting.0[0] & bit(signal) != 0 && !is_ignored(signal);
+    known && ENDING.into_iter().any(is_waiting)
+}
+
+fn is_ignored(signal: c_int) -> bool {
+    let mut action = SigAction([0; 19]);
+    // SAFETY: nothing is set, and what is told goes to a local as large as the C library's.
+    unsafe { sigaction(signal, ptr::null(), &mut action) == 0 && action.0[0] == SIG_IGN }
 }
 
 impl Drop for SignalsHeld {

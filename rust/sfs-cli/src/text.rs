@@ -1,5 +1,6 @@
 //! Sizes and names as people read and write them.
 
+use sfs::FileType;
 use std::ffi::OsStr;
 
 /// Bytes, or a number with K, M or G for the powers of 1,024.
@@ -32,6 +33,16 @@ pub fn count(number: u64) -> String {
 /// A word with its count.
 pub fn some(number: u64, one: &str, many: &str) -> String {
     format!("{} {}", count(number), if number == 1 { one } else { many })
+}
+
+/// What an inode is: its letter in long listings, and the word for it.
+pub fn kind(kind: FileType) -> (char, &'static str) {
+    match kind {
+        FileType::File => ('-', "file"),
+        FileType::Dir => ('d', "directory"),
+        FileType::SymLink => ('l', "symbolic link"),
+        _ => ('?', "another kind"),
+    }
 }
 
 /// For messages and terminals: a name cannot move the cursor or begin a line.

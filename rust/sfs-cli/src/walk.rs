@@ -39,25 +39,22 @@ pub fn below<I: AsRef<[u8]>>(card: &Card<I>, dir: INodeId) -> Result<Vec<Item>, 
     let mut items = Vec::new();
     let mut ways = vec![(dir, list(card, dir)?.into_iter())];
     while let Some((parent, entries)) = ways.last_mut() {
-        let parent = *parent;
-        let entry = match entries.next() {
-            Some(entry) => entry,
-            None => {
-                ways.pop();
-                continue;
-            }
-        };
+        let (parent, next) = (*parent, entries.next());
         let last = entries.len() == 0;
-        let meta = card.metadata(entry.inode())?;
-        items.push(Item {
-            parent,
-            entry,
-            meta,
-            depth: ways.len(),
-            last,
-        });
-        if meta.kind == FileType::Dir {
-            ways.push((entry.inode(), list(card, entry.inode())?.into_iter()));
+        if let Some(entry) = next {
+            let meta = card.metadata(entry.inode())?;
+            items.push(Item {
+                parent,
+                entry,
+                meta,
+                depth: ways.len(),
+                last,
+            });
+            if meta.kind == FileType::Dir {
+                ways.push((entry.inode(), list(card, entry.inode())?.into_iter()));
+            }
+        } else {
+            ways.pop();
         }
     }
     Ok(items)

@@ -1,12 +1,11 @@
-use crate::entry::ENTRY;
-use crate::error::answer;
-use crate::{raw, Entries, Entry, Error, FileType, INodeId, Info, Metadata, BLOCK, MAX_BLOCKS};
+use crate::{Entries, Entry, Error, FileType, INodeId, Info, Metadata, BLOCK_SIZE, ENTRY_SIZE, MAX_BLOCKS};
 use std::cell::RefCell;
 use std::fmt;
 
 /// The words of scratch that calls on an image of that many bytes need at most: 4 a block.
+#[must_use]
 pub fn scratch_words(image_len: usize) -> usize {
-    4 * (image_len / BLOCK).min(MAX_BLOCKS as usize)
+    4 * (image_len / BLOCK_SIZE).min(MAX_BLOCKS as usize)
 }
 
 /// A card image, and the scratch memory that each call on it needs.
@@ -27,6 +26,7 @@ pub struct Card<I, S = Vec<u32>> {
 
 impl<I: AsRef<[u8]>> Card<I> {
     /// A card with scratch of its own.
+    #[must_use]
     pub fn new(image: I) -> Card<I> {
         let words = scratch_words(image.as_ref().len());
         Card::with_scratch(image, vec![0; words])
@@ -45,6 +45,7 @@ impl<I, S> Card<I, S> {
     /// assert_eq!(card.info()?.unused, 12);
     /// # Ok::<(), Error>(())
     /// ```
+    #[must_use]
     pub fn with_scratch(image: I, scratch: S) -> Card<I, S> {
         Card {
             image,
@@ -53,6 +54,7 @@ impl<I, S> Card<I, S> {
     }
 
     /// Gives the image back.
+    #[must_use]
     pub fn into_image(self) -> I {
         self.image
     }
@@ -69,58 +71,52 @@ impl<I: AsRef<[u8]>, S> fmt::Debug for Card<I, S> {
 /// The calls that only read the image.
 impl<I: AsRef<[u8]>, S: AsMut<[u32]>> Card<I, S> {
     /// The image's bytes.
+    #[must_use]
     pub fn image(&self) -> &[u8] {
         self.image.as_ref()
     }
 
+    /// A call with the image and scratch.
+    fn look<T>(&self, call: impl FnOnce(&[u8], &mut [u32]) -> T) -> T {
+        call(self.image.as_ref(), self.scratch.borrow_mut().as_mut())
+    }
+
     /// Whether the card is whole, by all rules.
+    ///
+    /// # Errors
+    /// [`WrongFs`](Error::WrongFs) if the image is no card, [`Damaged`](Error::Damaged) if it is not whole, and
+    /// [`ScratchShort`](Error::ScratchShort) if scratch has fewer words than [`scratch_words`] tells.
     pub fn check(&self) -> Result<(), Error> {
         self.info().map(|_| ())
     }
 
     /// The card's counts of blocks.
+    ///
+    /// # Errors
+    /// As [`check`](Card::check).
     pub fn info(&self) -> Result<Info, Error> {
-        let (image, mut scratch) = (self.image.as_ref(), self.scratch.borrow_mut());
-        let scratch = scratch.as_mut();
         let (mut blocks, mut unused) = (0, 0);
-        // SAFETY: both slices are borrowed over the call, with their lengths; the exclusive ones and the two local
-        // results overlap nothing.
-        answer(unsafe {
-            raw::sfs_check(
-                image.as_ptr(),
-                image.len(),
-                scratch.as_mut_ptr(),
-                scratch.len(),
-                &mut blocks,
-                &mut unused,
-            )
-        })?;
+        // SAFETY: the call's own pointers are those of local results.
+        unsafe { call!(self.look, sfs_check(&mut blocks, &mut unused)) }?;
         Ok(Info { blocks, unused })
     }
 
     /// Kind, size, blocks and links of an inode.
+    ///
+    /// # Errors
+    /// As [`check`](Card::check); then [`NoInode`](Error::NoInode).
     pub fn metadata(&self, inode: INodeId) -> Result<Metadata, Error> {
-        let (image, mut scratch) = (self.image.as_ref(), self.scratch.borrow_mut());
-        let scratch = scratch.as_mut();
         let (mut kind, mut size, mut blocks, mut links) = (0, 0, 0, 0);
-        // SAFETY: as in `info`: slices borrowed over the call with their lengths, and four local results.
-        answer(unsafe {
-            raw::sfs_metadata(
-                image.as_ptr(),
-                image.len(),
-                scratch.as_mut_ptr(),
-                scratch.len(),
-                inode.0,
-                &mut kind,
-                &mut size,
-                &mut blocks,
-                &mut links,
+        // SAFETY: the call's own pointers are those of local results.
+        unsafe {
+            call!(
+                self.look,
+                sfs_metadata(inode.0, &mut kind, &mut size, &mut blocks, &mut links)
             )
-        })?;
-        // A whole card has only these three.
-        let kind = FileType::from_number(kind).ok_or(Error::Damaged)?;
+        }?;
         Ok(Metadata {
-            kind,
+            // A whole card has no other kinds than these.
+            kind: FileType::try_from(kind).map_err(|_| Error::Damaged)?,
             size,
             blocks,
             links,
@@ -129,28 +125,25 @@ impl<I: AsRef<[u8]>, S: AsMut<[u32]>> Card<I, S> {
 
     /// Reads from a byte on, and answers how many bytes there were: fewer than the buffer has at the end of the file,
     /// and 0 past it.
+    ///
+    /// # Errors
+    /// As [`check`](Card::check); then [`NoInode`](Error::NoInode), and [`NotFile`](Error::NotFile) for a directory.
     pub fn read_at(&self, inode: INodeId, offset: u64, buf: &mut [u8]) -> Result<usize, Error> {
-        let (image, mut scratch) = (self.image.as_ref(), self.scratch.borrow_mut());
-        let scratch = scratch.as_mut();
         let mut count = 0;
-        // SAFETY: as in `info`; the buffer is an exclusive slice with its length, so it overlaps no other.
-        answer(unsafe {
-            raw::sfs_read(
-                image.as_ptr(),
-                image.len(),
-                scratch.as_mut_ptr(),
-                scratch.len(),
-                inode.0,
-                offset,
-                buf.as_mut_ptr(),
-                buf.len(),
-                &mut count,
+        // SAFETY: the buffer is an exclusive slice with its length; the count is a local result.
+        unsafe {
+            call!(
+                self.look,
+                sfs_read(inode.0, offset, buf.as_mut_ptr(), buf.len(), &mut count)
             )
-        })?;
+        }?;
         Ok(count as usize)
     }
 
     /// All bytes of a file or symbolic link. Two calls.
+    ///
+    /// # Errors
+    /// As [`read_at`](Card::read_at).
     pub fn read_as_vec(&self, inode: INodeId) -> Result<Vec<u8>, Error> {
         let mut bytes = vec![0; self.metadata(inode)?.size as usize];
         let count = self.read_at(inode, 0, &mut bytes)?;
@@ -159,44 +152,27 @@ impl<I: AsRef<[u8]>, S: AsMut<[u32]>> Card<I, S> {
     }
 
     /// The inode that a directory's entry of that name names, "." and ".." too.
+    ///
+    /// # Errors
+    /// As [`check`](Card::check); then [`NoInode`](Error::NoInode), [`NotDir`](Error::NotDir) if `dir` is no directory,
+    /// and [`EntryNotFound`](Error::EntryNotFound).
     pub fn find(&self, dir: INodeId, name: impl AsRef<[u8]>) -> Result<INodeId, Error> {
-        let (image, mut scratch) = (self.image.as_ref(), self.scratch.borrow_mut());
-        let (scratch, name) = (scratch.as_mut(), name.as_ref());
         let mut number = 0;
-        // SAFETY: as in `info`; the name is a slice with its length that is only read.
-        answer(unsafe {
-            raw::sfs_find(
-                image.as_ptr(),
-                image.len(),
-                scratch.as_mut_ptr(),
-                scratch.len(),
-                dir.0,
-                name.as_ptr(),
-                name.len(),
-                &mut number,
-            )
-        })?;
+        let name = name.as_ref();
+        // SAFETY: the name is a slice with its length; the number is a local result.
+        unsafe { call!(self.look, sfs_find(dir.0, name.as_ptr(), name.len(), &mut number)) }?;
         Ok(INodeId(number))
     }
 
     /// A directory's entry by its index: 0 is ".", 1 is "..".
-    pub fn get_entry(&self, dir: INodeId, index: u64) -> Result<Entry, Error> {
-        let (image, mut scratch) = (self.image.as_ref(), self.scratch.borrow_mut());
-        let scratch = scratch.as_mut();
-        let mut entry = [0; ENTRY];
-        // SAFETY: as in `info`; the result is a local of the 260 bytes that the call writes.
-        answer(unsafe {
-            raw::sfs_entry(
-                image.as_ptr(),
-                image.len(),
-                scratch.as_mut_ptr(),
-                scratch.len(),
-                dir.0,
-                index,
-                entry.as_mut_ptr(),
-            )
-        })?;
-        Ok(Entry::new(entry))
+    ///
+    /// # Errors
+    /// As [`find`](Card::find): [`EntryNotFound`](Error::EntryNotFound) if the directory has no more entries.
+    pub fn entry(&self, dir: INodeId, index: u64) -> Result<Entry, Error> {
+        let mut entry = [0; ENTRY_SIZE];
+        // SAFETY: the entry is a local of as many bytes as the call writes.
+        unsafe { call!(self.look, sfs_entry(dir.0, index, entry.as_mut_ptr())) }?;
+        Ok(Entry::new(&entry))
     }
 
     /// All entries of a directory, "." and ".." first. Each step is a call and so costs a check of the card.

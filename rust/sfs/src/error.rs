@@ -1,7 +1,11 @@
 use std::fmt;
+use std::io;
 
-/// Why a call was refused: document 01's numbers and names. A refused call leaves the image and the buffers untouched.
+/// Why a call was refused, by the rules' numbers and names. A refused call leaves the image and the buffers untouched.
+///
+/// Later versions may know more refusals.
 #[derive(Clone, Copy, PartialEq, Eq, Hash, Debug)]
+#[non_exhaustive]
 #[repr(u32)]
 pub enum Error {
     /// Fewer than 4 words of scratch a block.
@@ -26,7 +30,8 @@ pub enum Error {
     EntryNotFound = 10,
     /// A directory to be unlinked holds entries besides "." and "..".
     DirNotEmpty = 11,
-    /// A length above 4,294,967,295; a directory moved into itself or below; a card of another size than format makes.
+    /// A length above 4,294,967,295; a directory moved into itself or below; a card of another size than format makes; a
+    /// block, a buffer or a number of slots that a [`BlockCache`](crate::BlockCache) does not take.
     InvalidParam = 12,
     /// A link count of 65,535 would rise.
     TooManyLinks = 13,
@@ -35,8 +40,8 @@ pub enum Error {
 }
 
 impl Error {
-    /// All refusals, by rising number from 1 on.
-    pub const ALL: [Error; 14] = [
+    /// All refusals of this version, by rising number from 1 on.
+    pub const ALL: &'static [Error] = &[
         Error::ScratchShort,
         Error::WrongFs,
         Error::Damaged,
@@ -53,16 +58,18 @@ impl Error {
         Error::NoDeviceSpace,
     ];
 
-    /// Document 01's number, 1 to 14.
+    /// The rules' number, from 1 on. `TryFrom<u32>` goes back.
+    #[must_use]
     pub fn number(self) -> u32 {
         self as u32
     }
 
-    /// Document 01's name.
+    /// The rules' name.
     ///
     /// ```
     /// assert_eq!(sfs::Error::NoDeviceSpace.name(), "NoDeviceSpace");
     /// ```
+    #[must_use]
     pub fn name(self) -> &'static str {
         match self {
             Error::ScratchShort => "ScratchShort",
@@ -82,17 +89,7 @@ impl Error {
         }
     }
 
-    /// The refusal with that number.
-    ///
-    /// ```
-    /// use sfs::Error;
-    /// assert_eq!(Error::from_number(14), Some(Error::NoDeviceSpace));
-    /// assert_eq!(Error::from_number(0), None);
-    /// ```
-    pub fn from_number(number: u32) -> Option<Error> {
-        Error::ALL.into_iter().find(|error| error.number() == number)
-    }
-
+    /// The same as in `include/sfs.h`.
     fn sentence(self) -> &'static str {
         match self {
             Error::ScratchShort => "the scratch memory is too short: 4 words a block are needed",
@@ -106,14 +103,14 @@ impl Error {
             Error::EntryExist => "the name is there already",
             Error::EntryNotFound => "there is no such entry",
             Error::DirNotEmpty => "the directory is not empty",
-            Error::InvalidParam => "a size is outside its limits, or a directory would go into itself or below",
+            Error::InvalidParam => "a size or kind is outside its limits, or a directory would go into itself or below",
             Error::TooManyLinks => "the link count is at its limit of 65,535",
             Error::NoDeviceSpace => "the card has too few unused blocks",
         }
     }
 }
 
-/// A sentence for people.
+/// A sentence for people, as `sfs_text` of `include/sfs.h` has it.
 impl fmt::Display for Error {
     fn fmt(&self, f: &mut fmt::Formatter<'_>) -> fmt::Result {
         f.pad(self.sentence())
@@ -122,10 +119,79 @@ impl fmt::Display for Error {
 
 impl std::error::Error for Error {}
 
+/// The refusal with that number.
+///
+/// ```
+/// use sfs::Error;
+/// assert_eq!(Error::try_from(14), Ok(Error::NoDeviceSpace));
+/// assert!(Error::try_from(0).is_err());
+/// ```
+impl TryFrom<u32> for Error {
+    type Error = UnknownNumber;
+
+    fn try_from(number: u32) -> Result<Error, UnknownNumber> {
+        let found = Error::ALL.iter().find(|error| error.number() == number);
+        found.copied().ok_or(UnknownNumber(number))
+    }
+}
+
+impl From<Error> for u32 {
+    fn from(error: Error) -> u32 {
+        error.number()
+    }
+}
+
+/// For programs that have all their failures as [`io::Error`]: the refusal is inside, and the kind is the nearest one.
+///
+/// ```
+/// use sfs::{Card, Error, INodeId};
+/// use std::io;
+///
+/// fn read(image: &[u8]) -> io::Result<Vec<u8>> {
+///     let card = Card::new(image);
+///     let file = card.find(INodeId::ROOT, "log")?;
+///     Ok(card.read_as_vec(file)?)
+/// }
+/// let error = read(&[0; 65_536]).unwrap_err();
+/// assert_eq!(error.kind(), io::ErrorKind::InvalidData);
+/// let inside = error.get_ref().and_then(|inside| inside.downcast_ref::<Error>());
+/// assert_eq!(inside, Some(&Error::WrongFs));
+/// ```
+impl From<Error> for io::Error {
+    fn from(error: Error) -> io::Error {
+        let kind = match error {
+            Error::WrongFs | Error::Damaged => io::ErrorKind::InvalidData,
+            Error::NoInode | Error::EntryNotFound => io::ErrorKind::NotFound,
+            Error::EntryExist => io::ErrorKind::AlreadyExists,
+            Error::ScratchShort
+            | Error::NotFile
+            | Error::NotDir
+            | Error::IsDir
+            | Error::BadName
+            | Error::InvalidParam => io::ErrorKind::InvalidInput,
+            // Kinds of their own are newer than the oldest compiler that this crate is for.
+            Error::DirNotEmpty | Error::TooManyLinks | Error::NoDeviceSpace => io::ErrorKind::Other,
+        };
+        io::Error::new(kind, error)
+    }
+}
+
+/// A number that stands for nothing here: what a [`TryFrom<u32>`](TryFrom) of this crate answers.
+#[derive(Clone, Copy, PartialEq, Eq, Hash, Debug)]
+pub struct UnknownNumber(pub u32);
+
+impl fmt::Display for UnknownNumber {
+    fn fmt(&self, f: &mut fmt::Formatter<'_>) -> fmt::Result {
+        write!(f, "the number {} stands for nothing here", self.0)
+    }
+}
+
+impl std::error::Error for UnknownNumber {}
+
 /// A call's answer from the library's number.
 pub(crate) fn answer(number: u32) -> Result<(), Error> {
     match number {
         0 => Ok(()),
-        _ => Err(Error::from_number(number).expect("libsfs.a answers by another sfs.h than this crate's")),
+        _ => Err(Error::try_from(number).expect("libsfs.a answers by another sfs.h than this crate's")),
     }
 }

@@ -7,9 +7,9 @@
 //! use sfs::{Card, Error, FileType, INodeId};
 //!
 //! fn main() -> Result<(), Error> {
-//!     let mut image = vec![0; 16 * sfs::BLOCK];
+//!     let mut image = vec![0; 16 * sfs::BLOCK_SIZE];
 //!     let mut card = Card::new(&mut image[..]);
-//!     card.format(16 * sfs::BLOCK as u64)?;
+//!     card.format(16 * sfs::BLOCK_SIZE as u64)?;
 //!     let file = card.create(INodeId::ROOT, "log", FileType::File)?;
 //!     card.write_at(file, 0, b"first record\n")?;
 //!     assert_eq!(card.read_as_vec(file)?, b"first record\n");
@@ -25,9 +25,15 @@
 //!
 //! **What a call costs**: it walks the whole card first, so a read of one byte costs as much as a check. Read and write
 //! in few large pieces. [`Card::entries`] makes one call for each entry.
-#![warn(missing_docs)]
+//!
+//! A [`BlockCache`] keeps some blocks of a slow device in memory.
+#![warn(missing_docs, missing_debug_implementations)]
+#![warn(clippy::pedantic)]
 #![deny(unsafe_op_in_unsafe_fn)]
 
+#[macro_use]
+mod call;
+mod cache;
 mod card;
 mod edit;
 mod entry;
@@ -35,13 +41,16 @@ mod error;
 mod meta;
 mod raw;
 
+pub use cache::BlockCache;
 pub use card::{scratch_words, Card};
-pub use entry::{Entries, Entry, ENTRY};
-pub use error::Error;
+pub use entry::{Entries, Entry};
+pub use error::{Error, UnknownNumber};
 pub use meta::{FileType, INodeId, Info, Metadata};
 
 /// The bytes of a block.
-pub const BLOCK: usize = 4096;
+pub const BLOCK_SIZE: usize = 4096;
+/// The bytes of a directory entry.
+pub const ENTRY_SIZE: usize = 260;
 /// The fewest blocks of a card.
 pub const MIN_BLOCKS: u32 = 16;
 /// The most blocks of a card.

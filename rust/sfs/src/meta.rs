@@ -1,3 +1,4 @@
+use crate::UnknownNumber;
 use std::fmt;
 
 /// The number of an inode. It may name another file after an unlink: only a number that is no inode now is refused.
@@ -15,8 +16,9 @@ impl fmt::Display for INodeId {
     }
 }
 
-/// What an inode is.
+/// What an inode is. Later versions may know more kinds.
 #[derive(Clone, Copy, PartialEq, Eq, Hash, Debug)]
+#[non_exhaustive]
 #[repr(u32)]
 pub enum FileType {
     /// A file of bytes.
@@ -28,24 +30,42 @@ pub enum FileType {
 }
 
 impl FileType {
-    /// The kind's number on the card.
+    /// The kind's number on the card. `TryFrom<u32>` goes back.
+    #[must_use]
     pub fn number(self) -> u32 {
         self as u32
     }
+}
 
-    /// The kind with that number on the card.
-    pub fn from_number(number: u32) -> Option<FileType> {
+impl From<FileType> for u32 {
+    fn from(kind: FileType) -> u32 {
+        kind.number()
+    }
+}
+
+/// The kind with that number on the card.
+///
+/// ```
+/// use sfs::{FileType, UnknownNumber};
+/// assert_eq!(FileType::try_from(2), Ok(FileType::Dir));
+/// assert_eq!(FileType::try_from(0), Err(UnknownNumber(0)));
+/// ```
+impl TryFrom<u32> for FileType {
+    type Error = UnknownNumber;
+
+    fn try_from(number: u32) -> Result<FileType, UnknownNumber> {
         match number {
-            1 => Some(FileType::File),
-            2 => Some(FileType::Dir),
-            3 => Some(FileType::SymLink),
-            _ => None,
+            1 => Ok(FileType::File),
+            2 => Ok(FileType::Dir),
+            3 => Ok(FileType::SymLink),
+            _ => Err(UnknownNumber(number)),
         }
     }
 }
 
-/// An inode's numbers.
-#[derive(Clone, Copy, PartialEq, Eq, Debug)]
+/// An inode's numbers. Later versions may have more fields.
+#[derive(Clone, Copy, PartialEq, Eq, Hash, Debug)]
+#[non_exhaustive]
 pub struct Metadata {
     /// What it is.
     pub kind: FileType,
@@ -57,8 +77,9 @@ pub struct Metadata {
     pub links: u32,
 }
 
-/// A card's numbers, in blocks of [`BLOCK`](crate::BLOCK) bytes.
-#[derive(Clone, Copy, PartialEq, Eq, Debug)]
+/// A card's numbers, in blocks of [`BLOCK_SIZE`](crate::BLOCK_SIZE) bytes. Later versions may have more fields.
+#[derive(Clone, Copy, PartialEq, Eq, Hash, Debug)]
+#[non_exhaustive]
 pub struct Info {
     /// All blocks, with those of the superblock, the map and the inodes.
     pub blocks: u32,

@@ -1,18 +1,18 @@
-//! Document 01's tried examples, by the crate.
+//! The rules' tried examples, by the crate.
 
-use sfs::{Card, Error, FileType, INodeId, Info, Metadata, BLOCK};
+use sfs::{Card, Error, FileType, INodeId, BLOCK_SIZE};
 
 const ROOT: INodeId = INodeId::ROOT;
 
 fn card(blocks: usize) -> Card<Vec<u8>> {
-    let space = blocks * BLOCK;
+    let space = blocks * BLOCK_SIZE;
     let mut card = Card::new(vec![0; space]);
     card.format(space as u64).unwrap();
     card
 }
 
 fn map_byte(card: &Card<Vec<u8>>, i: usize) -> u8 {
-    card.image()[2 * BLOCK + i]
+    card.image()[2 * BLOCK_SIZE + i]
 }
 
 fn unused(card: &Card<Vec<u8>>) -> u32 {
@@ -22,15 +22,14 @@ fn unused(card: &Card<Vec<u8>>) -> u32 {
 #[test]
 fn formatted() {
     let card = card(16);
-    assert_eq!(card.info(), Ok(Info { blocks: 16, unused: 12 }));
+    let info = card.info().unwrap();
+    assert_eq!((info.blocks, info.unused), (16, 12));
     assert_eq!((map_byte(&card, 0), map_byte(&card, 1)), (0xf0, 0xff));
-    let root = Metadata {
-        kind: FileType::Dir,
-        size: 520,
-        blocks: 1,
-        links: 2,
-    };
-    assert_eq!(card.metadata(ROOT), Ok(root));
+    let root = card.metadata(ROOT).unwrap();
+    assert_eq!(
+        (root.kind, root.size, root.blocks, root.links),
+        (FileType::Dir, 520, 1, 2)
+    );
 }
 
 #[test]
@@ -91,7 +90,7 @@ fn names_at_their_limit() {
     card.create(ROOT, "n".repeat(255), FileType::File).unwrap();
     assert_eq!(card.create(ROOT, "n".repeat(256), FileType::File), Err(Error::BadName));
     assert_eq!(card.find(ROOT, "n".repeat(256)), Err(Error::EntryNotFound));
-    assert_eq!(card.get_entry(ROOT, 2).unwrap().name().len(), 255);
+    assert_eq!(card.entry(ROOT, 2).unwrap().name().len(), 255);
 }
 
 #[test]

@@ -1,6 +1,6 @@
 //! Directories: listing, linking, moving, removing; and that what is freed serves again.
 
-use sfs::{Card, Error, FileType, INodeId, BLOCK};
+use sfs::{Card, Error, FileType, INodeId, BLOCK_SIZE};
 
 const ROOT: INodeId = INodeId::ROOT;
 
@@ -19,7 +19,7 @@ fn formatted(image: &mut [u8]) -> Card<&mut [u8]> {
 
 #[test]
 fn entries_of_a_directory() {
-    let mut image = vec![0; 64 * BLOCK];
+    let mut image = vec![0; 64 * BLOCK_SIZE];
     let mut card = formatted(&mut image);
     let dir = card.create(ROOT, "dir", FileType::Dir).unwrap();
     for name in ["one", "two", "three"] {
@@ -35,7 +35,7 @@ fn entries_of_a_directory() {
 
 #[test]
 fn entries_of_no_directory_end_after_the_refusal() {
-    let mut image = vec![0; 16 * BLOCK];
+    let mut image = vec![0; 16 * BLOCK_SIZE];
     let mut card = formatted(&mut image);
     let file = card.create(ROOT, "f", FileType::File).unwrap();
     let mut entries = card.entries(file);
@@ -45,7 +45,7 @@ fn entries_of_no_directory_end_after_the_refusal() {
 
 #[test]
 fn a_file_lives_as_long_as_its_names() {
-    let mut image = vec![0; 16 * BLOCK];
+    let mut image = vec![0; 16 * BLOCK_SIZE];
     let mut card = formatted(&mut image);
     let empty = card.info().unwrap();
     let file = card.create(ROOT, "a", FileType::File).unwrap();
@@ -61,11 +61,11 @@ fn a_file_lives_as_long_as_its_names() {
 
 #[test]
 fn a_moved_directory_has_its_new_parent() {
-    let mut image = vec![0; 32 * BLOCK];
+    let mut image = vec![0; 32 * BLOCK_SIZE];
     let mut card = formatted(&mut image);
     let a = card.create(ROOT, "a", FileType::Dir).unwrap();
     let b = card.create(ROOT, "b", FileType::Dir).unwrap();
-    card.move_(ROOT, "a", b, "c").unwrap();
+    card.rename(ROOT, "a", b, "c").unwrap();
     assert_eq!(card.find(b, "c"), Ok(a));
     assert_eq!(card.find(a, ".."), Ok(b));
     assert_eq!(
@@ -77,7 +77,7 @@ fn a_moved_directory_has_its_new_parent() {
 
 #[test]
 fn a_symbolic_link_holds_its_text() {
-    let mut image = vec![0; 16 * BLOCK];
+    let mut image = vec![0; 16 * BLOCK_SIZE];
     let mut card = formatted(&mut image);
     let link = card.create(ROOT, "l", FileType::SymLink).unwrap();
     card.write_at(link, 0, b"../x").unwrap();
@@ -88,17 +88,18 @@ fn a_symbolic_link_holds_its_text() {
 /// Through both levels of pointer blocks, in one call and in pieces.
 #[test]
 fn a_long_file_comes_back() {
-    let mut image = vec![0; 3_000 * BLOCK];
+    let mut image = vec![0; 3_000 * BLOCK_SIZE];
     let mut card = formatted(&mut image);
-    let bytes: Vec<u8> = (0..2_100 * BLOCK as u32 + 17)
+    // 2,100 blocks and 17 bytes.
+    let bytes: Vec<u8> = (0..8_601_617_u32)
         .map(|i| (i.wrapping_mul(2_654_435_761) >> 24) as u8)
         .collect();
     let file = card.create(ROOT, "long", FileType::File).unwrap();
     assert_eq!(card.write_at(file, 0, &bytes), Ok(bytes.len()));
     assert!(card.read_as_vec(file).unwrap() == bytes);
     let mut piece = vec![0; 9_999];
-    assert_eq!(card.read_at(file, 1_035 * BLOCK as u64 - 3, &mut piece), Ok(9_999));
-    assert!(piece == bytes[1_035 * BLOCK - 3..][..9_999]);
+    assert_eq!(card.read_at(file, 1_035 * BLOCK_SIZE as u64 - 3, &mut piece), Ok(9_999));
+    assert!(piece == bytes[1_035 * BLOCK_SIZE - 3..][..9_999]);
     card.resize(file, 12).unwrap();
     assert_eq!(card.read_as_vec(file).unwrap(), bytes[..12]);
     card.check().unwrap();
@@ -107,7 +108,7 @@ fn a_long_file_comes_back() {
 /// The same numbers on a card that is only lent for reading.
 #[test]
 fn a_card_can_be_read_only() {
-    let mut image = vec![0; 16 * BLOCK];
+    let mut image = vec![0; 16 * BLOCK_SIZE];
     formatted(&mut image).create(ROOT, "f", FileType::File).unwrap();
     let mut scratch = [0; 64];
     let card = Card::with_scratch(&image[..], &mut scratch[..]);

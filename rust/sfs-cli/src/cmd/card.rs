@@ -3,8 +3,8 @@
 use crate::args::Args;
 use crate::cardfile::CardFile;
 use crate::failure::Failure;
-use crate::text::{clean, count, parse_size, some};
-use sfs::{Error, FileType, INodeId, Info, BLOCK, MAX_BLOCKS, MIN_BLOCKS};
+use crate::text::{self, clean, count, parse_size, some};
+use sfs::{Error, INodeId, Info, BLOCK_SIZE, MAX_BLOCKS, MIN_BLOCKS};
 use std::ffi::OsStr;
 use std::fs::{self, File, OpenOptions};
 use std::io::{self, Seek, SeekFrom, Write};
@@ -17,10 +17,12 @@ pub fn format(args: &Args, out: &mut dyn Write) -> Result<(), Failure> {
         Some(word) => parse_size(word).ok_or_else(|| bad_size(word))?,
         None => old_len.ok_or_else(|| Failure::usage(&name, "a new card needs a size, such as 16M"))?,
     };
-    let blocks = space / BLOCK as u64 + u64::from(space % BLOCK as u64 > 0);
+    let blocks = space / BLOCK_SIZE as u64 + u64::from(space % BLOCK_SIZE as u64 > 0);
     if !(u64::from(MIN_BLOCKS)..=u64::from(MAX_BLOCKS)).contains(&blocks) {
-        let failure = Failure::refused(name, Error::InvalidParam);
-        return Err(failure.advise("Give a size of 64K to 128M: a card has 16 to 32,768 blocks of 4,096 bytes."));
+        let what = if blocks < MIN_BLOCKS.into() { "small" } else { "large" };
+        let why = format!("a card of {} is too {what}", some(space, "byte", "bytes"));
+        let advice = "Give a size of 64K to 128M: a card has 16 to 32,768 blocks of 4,096 bytes.";
+        return Err(Failure::refused_as(name, Error::InvalidParam, why, advice));
     }
     if old_len.is_some() && !args.has("force") && holds_something(&CardFile::read(path)?) {
         let advice = "Format would lose what it holds. Give -f if that is wanted.";
@@ -30,7 +32,7 @@ pub fn format(args: &Args, out: &mut dyn Write) -> Result<(), Failure> {
             advice,
         ));
     }
-    if let Err(failure) = format_file(path, space, blocks * BLOCK as u64) {
+    if let Err(failure) = format_file(path, space, blocks * BLOCK_SIZE as u64) {
         restore(path, old_len);
         return Err(failure);
     }
@@ -45,7 +47,7 @@ fn length(path: &OsStr) -> Option<u64> {
 
 /// Anything but zeros and an empty card.
 fn holds_something(file: &CardFile) -> bool {
-    match file.card.get_entry(INodeId::ROOT, 2) {
+    match file.card.entry(INodeId::ROOT, 2) {
         Err(Error::EntryNotFound) => false,
         _ => file.card.image().iter().any(|&byte| byte != 0),
     }
@@ -89,8 +91,8 @@ pub fn bad_size(word: &OsStr) -> Failure {
     )
 }
 
-fn info_of(file: &CardFile) -> Result<Info, Failure> {
-    file.card.info().map_err(|e| Failure::refused(file.path().display(), e))
+pub fn info_of(file: &CardFile) -> Result<Info, Failure> {
+    file.card.info().map_err(|e| file.refused_card(e))
 }
 
 pub fn check(args: &Args, out: &mut dyn Write) -> Result<(), Failure> {
@@ -113,10 +115,10 @@ pub fn info(args: &Args, out: &mut dyn Write) -> Result<(), Failure> {
 
 fn card_info(file: &CardFile, out: &mut dyn Write) -> Result<(), Failure> {
     let info = info_of(file)?;
-    let bytes = |blocks: u32| count(u64::from(blocks) * BLOCK as u64);
+    let bytes = |blocks: u32| count(u64::from(blocks) * BLOCK_SIZE as u64);
     let used = info.blocks - info.unused;
     let lines = [("blocks", info.blocks), ("used", used), ("unused", info.unused)];
-    writeln!(out, "{:8} {:>7}   of {} bytes", "block", 1, count(BLOCK as u64)).map_err(Failure::output)?;
+    writeln!(out, "{:8} {:>7}   of {} bytes", "block", 1, count(BLOCK_SIZE as u64)).map_err(Failure::output)?;
     for (name, blocks) in lines {
         let (text, bytes) = (count(blocks.into()), bytes(blocks));
         writeln!(out, "{name:8} {text:>7}   {bytes} bytes").map_err(Failure::output)?;
@@ -127,11 +129,7 @@ fn card_info(file: &CardFile, out: &mut dyn Write) -> Result<(), Failure> {
 fn path_info(file: &CardFile, path: &OsStr, out: &mut dyn Write) -> Result<(), Failure> {
     let inode = file.find(path)?;
     let meta = file.card.metadata(inode).map_err(|e| file.refused(path, e))?;
-    let kind = match meta.kind {
-        FileType::File => "file",
-        FileType::Dir => "directory",
-        FileType::SymLink => "symbolic link",
-    };
+    let (_, kind) = text::kind(meta.kind);
     let (size, blocks, links) = (
         count(meta.size.into()),
         count(meta.blocks.into()),
@@ -145,9 +143,12 @@ fn path_info(file: &CardFile, path: &OsStr, out: &mut dyn Write) -> Result<(), F
 }
 
 pub fn df(args: &Args, out: &mut dyn Write) -> Result<(), Failure> {
-    writeln!(out, "{:>10} {:>10} {:>10} {:>5}  card", "KiB", "used", "unused", "use").map_err(Failure::output)?;
-    for path in &args.words {
+    for (i, path) in args.words.iter().enumerate() {
         let info = info_of(&CardFile::read(path)?)?;
+        if i == 0 {
+            writeln!(out, "{:>10} {:>10} {:>10} {:>5}  card", "KiB", "used", "unused", "use")
+                .map_err(Failure::output)?;
+        }
         let kib = |blocks: u32| u64::from(blocks) * 4;
         let used = info.blocks - info.unused;
         // Rounded down, so that only a full card has 100 %.

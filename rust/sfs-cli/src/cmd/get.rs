@@ -3,15 +3,15 @@
 use crate::args::Args;
 use crate::cardfile::CardFile;
 use crate::failure::Failure;
+use crate::host::Target;
 use crate::path;
 use crate::progress::Progress;
 use crate::walk::{self, Item};
 use sfs::{FileType, INodeId, Metadata};
 use std::ffi::OsStr;
-use std::fs::{self, OpenOptions};
+use std::fs;
 use std::io::{self, Write};
 use std::os::unix::ffi::OsStrExt;
-use std::os::unix::fs::symlink;
 use std::path::{Path, PathBuf};
 
 /// The longest path of this machine, with its NUL.
@@ -19,12 +19,12 @@ const PATH_MAX: usize = 4096;
 
 pub fn cat(args: &Args, out: &mut dyn Write) -> Result<(), Failure> {
     let file = CardFile::read(args.word(0))?;
-    for path in &args.words[1..] {
-        let inode = file.find(path)?;
-        let bytes = file.card.read_as_vec(inode).map_err(|e| file.refused(path, e))?;
-        out.write_all(&bytes).map_err(Failure::output)?;
-    }
-    Ok(())
+    args.words[1..].iter().try_for_each(|path| print(&file, path, out))
+}
+
+fn print(file: &CardFile, path: &OsStr, out: &mut dyn Write) -> Result<(), Failure> {
+    let bytes = bytes_of(file, path, file.find(path)?)?;
+    out.write_all(&bytes).map_err(Failure::output)
 }
 
 /// What is to be got, and its place on this machine.
@@ -34,19 +34,35 @@ struct Wanted<'a> {
     /// Its path on the card, or that of the tree it is in.
     path: &'a OsStr,
     to: PathBuf,
+    /// Whether the command names it: not what is in a tree.
+    named: bool,
 }
 
-pub fn get(args: &Args, _: &mut dyn Write) -> Result<(), Failure> {
+pub fn get(args: &Args, out: &mut dyn Write) -> Result<(), Failure> {
     let file = CardFile::read(args.word(0))?;
     let (paths, to) = (
         &args.words[1..args.words.len() - 1],
         Path::new(args.word(args.words.len() - 1)),
     );
+    if is_standard_output(to) {
+        return match paths {
+            [path] => print(&file, path, out),
+            _ => Err(Failure::usage(
+                "-",
+                "standard output takes one file; `sfs cat` prints several",
+            )),
+        };
+    }
     if paths.len() > 1 && !to.is_dir() {
+        let why = if to.exists() {
+            "this is not a directory"
+        } else {
+            "there is no such directory"
+        };
         return Err(Failure::host_text(
             to.display(),
-            "this is not a directory",
-            "Several things need a directory.",
+            why,
+            "Several things go into a directory only.",
         ));
     }
     let mut wanted = Vec::new();
@@ -60,12 +76,20 @@ pub fn get(args: &Args, _: &mut dyn Write) -> Result<(), Failure> {
     }
     let total = wanted.iter().map(|w| u64::from(w.meta.size)).sum();
     let mut progress = Progress::new(total);
+    let target = Target {
+        card: &file,
+        force: args.has("force"),
+    };
     for w in &wanted {
         progress.step(0, w.to.as_os_str().as_bytes());
-        get_one(&file, w, args.has("force"))?;
+        get_one(&target, w)?;
         progress.step(w.meta.size.into(), w.to.as_os_str().as_bytes());
     }
     Ok(())
+}
+
+fn is_standard_output(to: &Path) -> bool {
+    to == Path::new("-") || to == Path::new("/dev/stdout")
 }
 
 fn own_name(path: &OsStr) -> Result<&OsStr, Failure> {
@@ -98,7 +122,13 @@ fn want<'a>(
     }
     // The places of the directories on the way down.
     let mut places = vec![to.clone()];
-    wanted.push(Wanted { inode, meta, path, to });
+    wanted.push(Wanted {
+        inode,
+        meta,
+        path,
+        to,
+        named: true,
+    });
     if meta.kind != FileType::Dir {
         return Ok(());
     }
@@ -119,6 +149,7 @@ fn want<'a>(
             meta: item.meta,
             path,
             to,
+            named: false,
         });
     }
     Ok(())
@@ -139,38 +170,26 @@ fn host_name<'i>(file: &CardFile, path: &OsStr, item: &'i Item) -> Result<&'i Os
     Ok(OsStr::from_bytes(name))
 }
 
-fn get_one(file: &CardFile, wanted: &Wanted, force: bool) -> Result<(), Failure> {
-    let to = &wanted.to;
-    let host = |e: io::Error| Failure::host(to.display(), &e);
+fn get_one(target: &Target, wanted: &Wanted) -> Result<(), Failure> {
+    let (file, to) = (target.card, &wanted.to);
     if wanted.meta.kind == FileType::Dir {
         return match fs::create_dir(to) {
             Err(e) if e.kind() == io::ErrorKind::AlreadyExists && is_real_dir(to) => Ok(()),
-            other => other.map_err(host),
+            other => other.map_err(|e| Failure::host(to.display(), &e)),
         };
     }
-    let bytes = file
-        .card
-        .read_as_vec(wanted.inode)
-        .map_err(|e| file.refused(wanted.path, e))?;
-    if force && fs::symlink_metadata(to).map_or(false, |meta| !meta.is_dir()) {
-        fs::remove_file(to).map_err(host)?;
-    }
+    let bytes = bytes_of(file, wanted.path, wanted.inode)?;
     match wanted.meta.kind {
-        FileType::SymLink => symlink(OsStr::from_bytes(&bytes), to).map_err(host),
-        _ => write_new(to, &bytes).map_err(host),
+        FileType::SymLink => target.symlink(to, &bytes),
+        _ => target.file(to, wanted.named, &bytes),
     }
+}
+
+fn bytes_of(file: &CardFile, path: &OsStr, inode: INodeId) -> Result<Vec<u8>, Failure> {
+    file.card.read_as_vec(inode).map_err(|e| file.refused(path, e))
 }
 
 /// One that is a directory itself, and not a symbolic link to one.
 fn is_real_dir(path: &Path) -> bool {
     fs::symlink_metadata(path).map_or(false, |meta| meta.is_dir())
-}
-
-/// A file that could not be written to its end is not left behind.
-fn write_new(to: &Path, bytes: &[u8]) -> io::Result<()> {
-    let mut new = OpenOptions::new().write(true).create_new(true).open(to)?;
-    new.write_all(bytes).map_err(|e| {
-        let _ = fs::remove_file(to);
-        e
-    })
 }

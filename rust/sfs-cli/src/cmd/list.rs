@@ -4,11 +4,12 @@ use crate::args::Args;
 use crate::cardfile::CardFile;
 use crate::failure::Failure;
 use crate::sys;
-use crate::text::clean;
+use crate::text::{self, clean, some};
 use crate::walk::{self, Item};
-use sfs::{Entry, FileType, Metadata};
+use sfs::{Entry, FileType, INodeId, Metadata};
 use std::ffi::{OsStr, OsString};
 use std::io::{self, Write};
+use std::os::unix::ffi::OsStrExt;
 
 /// A name as it is for programs, and harmless for terminals.
 fn shown(name: &[u8]) -> Vec<u8> {
@@ -34,72 +35,70 @@ pub fn ls(args: &Args, out: &mut dyn Write) -> Result<(), Failure> {
     } else {
         &root[..]
     };
-    for (i, path) in paths.iter().enumerate() {
-        if paths.len() > 1 {
-            let gap: &[u8] = if i > 0 { b"\n" } else { b"" };
-            line(out, &[gap, clean(path.to_string_lossy().as_bytes()).as_bytes(), b":"])?;
+    let mut after_dir = false;
+    for path in paths {
+        let inode = file.find(path)?;
+        let meta = file.card.metadata(inode).map_err(|e| file.refused(path, e))?;
+        let entries = match meta.kind {
+            FileType::Dir => Some(entries_of(&file, path, inode, args)?),
+            _ => None,
+        };
+        // A heading comes when what it is for is known to be there.
+        let gap: &[u8] = if after_dir { b"\n" } else { b"" };
+        match entries {
+            None => {
+                out.write_all(gap).map_err(Failure::output)?;
+                ls_line(&file, path, (path.as_bytes(), inode), args, out)?;
+            }
+            Some(entries) => {
+                if paths.len() > 1 {
+                    line(out, &[gap, &shown(path.as_bytes()), b":"])?;
+                }
+                for entry in entries {
+                    ls_line(&file, path, (entry.name(), entry.inode()), args, out)?;
+                }
+            }
         }
-        ls_path(&file, path, args, out)?;
+        after_dir = meta.kind == FileType::Dir;
     }
     Ok(())
 }
 
-fn ls_path(file: &CardFile, path: &OsStr, args: &Args, out: &mut dyn Write) -> Result<(), Failure> {
-    let refused = |e| file.refused(path, e);
-    let inode = file.find(path)?;
-    let meta = file.card.metadata(inode).map_err(refused)?;
-    if meta.kind != FileType::Dir {
-        let long = if args.has("long") {
-            long(inode.0, &meta)
-        } else {
-            String::new()
-        };
-        return line(
-            out,
-            &[
-                long.as_bytes(),
-                &shown(path.to_string_lossy().as_bytes()),
-                &arrow(file, path, &meta, inode, args)?,
-            ],
-        );
-    }
+fn entries_of(file: &CardFile, path: &OsStr, inode: INodeId, args: &Args) -> Result<Vec<Entry>, Failure> {
     let entries = if args.has("all") {
         walk::all(&file.card, inode)
     } else {
         walk::list(&file.card, inode)
     };
-    for entry in entries.map_err(refused)? {
-        ls_entry(file, path, &entry, args, out)?;
-    }
-    Ok(())
+    entries.map_err(|e| file.refused(path, e))
 }
 
-fn ls_entry(file: &CardFile, dir: &OsStr, entry: &Entry, args: &Args, out: &mut dyn Write) -> Result<(), Failure> {
+/// A name with the number that it names, by the path that it was found by.
+fn ls_line(
+    file: &CardFile,
+    path: &OsStr,
+    (name, inode): (&[u8], INodeId),
+    args: &Args,
+    out: &mut dyn Write,
+) -> Result<(), Failure> {
     if !args.has("long") {
-        return line(out, &[&shown(entry.name())]);
+        return line(out, &[&shown(name)]);
     }
-    let meta = file.card.metadata(entry.inode()).map_err(|e| file.refused(dir, e))?;
-    let arrow = arrow(file, dir, &meta, entry.inode(), args)?;
-    line(
-        out,
-        &[long(entry.inode().0, &meta).as_bytes(), &shown(entry.name()), &arrow],
-    )
+    let meta = file.card.metadata(inode).map_err(|e| file.refused(path, e))?;
+    let arrow = match meta.kind {
+        FileType::SymLink => arrow(file, path, inode)?,
+        _ => Vec::new(),
+    };
+    line(out, &[long(inode, &meta).as_bytes(), &shown(name), &arrow])
 }
 
-fn long(inode: u32, meta: &Metadata) -> String {
-    let kind = match meta.kind {
-        FileType::File => '-',
-        FileType::Dir => 'd',
-        FileType::SymLink => 'l',
-    };
+fn long(inode: INodeId, meta: &Metadata) -> String {
+    let (kind, _) = text::kind(meta.kind);
     format!("{kind} {inode:>6} {:>5} {:>10}  ", meta.links, meta.size)
 }
 
-/// In the long form, where a symbolic link leads to.
-fn arrow(file: &CardFile, path: &OsStr, meta: &Metadata, inode: sfs::INodeId, args: &Args) -> Result<Vec<u8>, Failure> {
-    if meta.kind != FileType::SymLink || !args.has("long") {
-        return Ok(Vec::new());
-    }
+/// Where a symbolic link leads to.
+fn arrow(file: &CardFile, path: &OsStr, inode: INodeId) -> Result<Vec<u8>, Failure> {
     let text = file.card.read_as_vec(inode).map_err(|e| file.refused(path, e))?;
     Ok([b" -> ", &shown(&text)[..]].concat())
 }
@@ -110,7 +109,7 @@ pub fn tree(args: &Args, out: &mut dyn Write) -> Result<(), Failure> {
     let path = args.words.get(1).unwrap_or(&root);
     let dir = file.find(path)?;
     let items = walk::below(&file.card, dir).map_err(|e| file.refused(path, e))?;
-    line(out, &[&shown(path.to_string_lossy().as_bytes())])?;
+    line(out, &[&shown(path.as_bytes())])?;
     // For each directory on the way down, whether more of it is to come.
     let mut open: Vec<bool> = Vec::new();
     for item in &items {
@@ -119,7 +118,9 @@ pub fn tree(args: &Args, out: &mut dyn Write) -> Result<(), Failure> {
         open.push(!item.last);
     }
     let dirs = items.iter().filter(|item| item.is_dir()).count();
-    writeln!(out, "\n{dirs} directories, {} files", items.len() - dirs).map_err(Failure::output)
+    let (dirs, files) = (dirs as u64, (items.len() - dirs) as u64);
+    let (dirs, files) = (some(dirs, "directory", "directories"), some(files, "file", "files"));
+    writeln!(out, "\n{dirs}, {files}").map_err(Failure::output)
 }
 
 fn tree_line(file: &CardFile, path: &OsStr, item: &Item, open: &[bool], out: &mut dyn Write) -> Result<(), Failure> {
@@ -129,15 +130,9 @@ fn tree_line(file: &CardFile, path: &OsStr, item: &Item, open: &[bool], out: &mu
     }
     let branch: &[u8] = if item.last { b"`-- " } else { b"|-- " };
     let end = match item.meta.kind {
-        FileType::File => format!("  {}", item.meta.size).into_bytes(),
         FileType::Dir => b"/".to_vec(),
-        FileType::SymLink => {
-            let text = file
-                .card
-                .read_as_vec(item.entry.inode())
-                .map_err(|e| file.refused(path, e))?;
-            [b" -> ", &shown(&text)[..]].concat()
-        }
+        FileType::SymLink => arrow(file, path, item.entry.inode())?,
+        _ => format!("  {}", item.meta.size).into_bytes(),
     };
     line(out, &[branch, &shown(item.entry.name()), &end])
 }

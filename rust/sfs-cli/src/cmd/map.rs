@@ -1,10 +1,11 @@
 //! A picture of the card: which file owns which block.
 
+use super::card::info_of;
 use crate::args::Args;
 use crate::cardfile::CardFile;
 use crate::failure::Failure;
 use crate::layout::{self, Owner};
-use crate::text::{clean, count};
+use crate::text::{clean, some};
 use std::io::Write;
 
 const WIDTH: usize = 64;
@@ -12,11 +13,8 @@ const LETTERS: &[u8] = b"abcdefghijklmnopqrstuvwxyzABCDEFGHIJKLMNOPQRSTUVWXYZ012
 
 pub fn map(args: &Args, out: &mut dyn Write) -> Result<(), Failure> {
     let file = CardFile::read(args.word(0))?;
-    let info = file
-        .card
-        .info()
-        .map_err(|e| Failure::refused(file.path().display(), e))?;
-    let image = &file.card.image()[..info.blocks as usize * sfs::BLOCK];
+    let info = info_of(&file)?;
+    let image = &file.card.image()[..info.blocks as usize * sfs::BLOCK_SIZE];
     let owners = layout::owners(image);
     match args.words.get(1) {
         None => {
@@ -72,11 +70,12 @@ fn legend(owners: &[Owner], i: usize, out: &mut dyn Write) -> Result<(), Failure
 
 fn details(owners: &[Owner], i: usize, out: &mut dyn Write) -> Result<(), Failure> {
     let owner = &owners[i];
-    let (path, all) = (clean(&layout::path(owners, i)), count(owner.blocks().count() as u64));
+    let path = clean(&layout::path(owners, i));
+    let all = some(owner.blocks().count() as u64, "block", "blocks");
     let (pointers, data) = (ranges(&owner.pointers), ranges(&owner.data));
     write!(
         out,
-        "{path}: {all} blocks\ninode     {}\npointers  {pointers}\ndata      {data}\n",
+        "{path}: {all}\ninode     {}\npointers  {pointers}\ndata      {data}\n",
         owner.inode
     )
     .map_err(Failure::output)

@@ -1,6 +1,7 @@
 //! The commands.
 
 mod card;
+mod copy;
 mod edit;
 mod get;
 mod list;
@@ -26,7 +27,7 @@ const FORCE: Flag = ('f', "force");
 const RECURSIVE: Flag = ('r', "recursive");
 
 #[rustfmt::skip]
-const COMMANDS: [Command; 15] = [
+const COMMANDS: [Command; 16] = [
     Command { name: "format", help: help::FORMAT, flags: &[FORCE], words: (1, 2), run: card::format },
     Command { name: "check", help: help::CHECK, flags: &[], words: (1, 1), run: card::check },
     Command { name: "info", help: help::INFO, flags: &[], words: (1, 2), run: card::info },
@@ -37,6 +38,7 @@ const COMMANDS: [Command; 15] = [
     Command { name: "cat", help: help::CAT, flags: &[], words: (2, MANY), run: get::cat },
     Command { name: "get", help: help::GET, flags: &[RECURSIVE, FORCE], words: (3, MANY), run: get::get },
     Command { name: "put", help: help::PUT, flags: &[RECURSIVE, FORCE], words: (3, MANY), run: put::put },
+    Command { name: "copy", help: help::COPY, flags: &[FORCE, ('q', "quiet")], words: (2, 2), run: copy::copy },
     Command { name: "mkdir", help: help::MKDIR, flags: &[('p', "parents")], words: (2, MANY), run: edit::mkdir },
     Command { name: "ln", help: help::LN, flags: &[('s', "symbolic")], words: (3, 3), run: edit::ln },
     Command { name: "rm", help: help::RM, flags: &[RECURSIVE], words: (2, MANY), run: edit::rm },

@@ -1,13 +1,15 @@
 //! Onto the card: put.
 
-use super::edit::directory_at;
+use super::card::info_of;
+use super::edit::{directory_at, too_long};
 use crate::args::Args;
 use crate::cardfile::CardFile;
 use crate::failure::Failure;
+use crate::lookup::bad_name;
 use crate::plan::{self, Kind, Source};
 use crate::progress::Progress;
-use crate::text::some;
-use sfs::{Error, FileType, INodeId, BLOCK};
+use crate::text::{self, some};
+use sfs::{Error, FileType, INodeId, BLOCK_SIZE};
 use std::ffi::{OsStr, OsString};
 use std::fs;
 use std::io::{self, Read, Write};
@@ -21,15 +23,10 @@ const WAIT: Duration = Duration::from_secs(1);
 pub fn put(args: &Args, _: &mut dyn Write) -> Result<(), Failure> {
     let file = CardFile::write(args.word(0))?;
     let (paths, to) = (&args.words[1..args.words.len() - 1], args.word(args.words.len() - 1));
-    let into = directory_at(&file, to)?;
-    if into.is_none() && paths.len() > 1 {
-        return Err(file
-            .refused(to, Error::NotDir)
-            .advise("Several things are put into a directory only."));
-    }
+    let into = directory_at(&file, to, paths.len() > 1)?;
     let (dir, name) = match into {
         Some(dir) => (dir, None),
-        None => file.parent(to).map(|(dir, name)| (dir, Some(name)))?,
+        None => new_place(&file, to)?,
     };
     let plan = plan(paths, name, args.has("recursive"))?;
     let mut putting = Putting::new(file, args.has("force"));
@@ -43,21 +40,30 @@ pub fn put(args: &Args, _: &mut dyn Write) -> Result<(), Failure> {
     }
 }
 
-fn left_by(done: usize) -> String {
-    match done {
-        0 => "Nothing was put: the card is as it was.".to_string(),
-        _ => {
-            let before = some(done as u64, "thing was", "things were");
-            format!("The card is as it was before this one; {before} put before it.")
-        }
+/// The directory that a new name goes into, and the name.
+fn new_place<'p>(file: &CardFile, to: &'p OsStr) -> Result<(INodeId, Option<&'p [u8]>), Failure> {
+    let (dir, name) = file.place(to)?;
+    match file.card.metadata(dir).map_err(|e| file.refused(to, e))?.kind {
+        FileType::Dir => Ok((dir, Some(name))),
+        _ => Err(file.refused_entry(to, Error::NotDir)),
     }
+}
+
+fn left_by(done: usize) -> String {
+    if done == 0 {
+        return "Nothing was put: the card is as it was.".to_string();
+    }
+    let before = some(done as u64, "thing was", "things were");
+    format!("The card is as it was before this one; {before} put before it.")
 }
 
 fn plan(paths: &[OsString], name: Option<&[u8]>, trees: bool) -> Result<Vec<Source>, Failure> {
     let mut sources = Vec::new();
     for path in paths {
         let path = Path::new(path);
-        let own = || path.file_name().map(|name| name.as_bytes().to_vec());
+        // Standard input has no name of its own.
+        let named = path.file_name().filter(|_| path.as_os_str() != "-");
+        let own = || named.map(|name| name.as_bytes().to_vec());
         let name = name.map(<[u8]>::to_vec).or_else(own);
         let name = name.ok_or_else(|| Failure::usage(path.display(), "this has no name of its own; give a new one"))?;
         plan::add(&mut sources, path, name, trees)?;
@@ -118,21 +124,17 @@ impl Putting {
         if self.unsaved && self.saved_at.elapsed() > WAIT {
             self.save()?;
         }
-        made.map_err(|error| self.refused(source, error))
+        made.map_err(|error| self.refused(dir, source, error))
     }
 
     /// Before something that may not fit, all changes are saved, so that giving up goes back to just before it.
     fn reserve(&mut self, len: u64) -> Result<(), Failure> {
-        let blocks = len / BLOCK as u64 + 1;
+        let blocks = len / BLOCK_SIZE as u64 + 1;
         // An inode, pointer blocks, and an entry in a directory that may take pointer blocks too.
         let need = blocks + blocks / 1024 + 10;
         if self.room < need {
             self.save()?;
-            let info = self
-                .file
-                .card
-                .info()
-                .map_err(|e| Failure::refused(self.file.path().display(), e))?;
+            let info = info_of(&self.file)?;
             self.room = info.unused.into();
         }
         self.room = self.room.saturating_sub(need);
@@ -149,11 +151,7 @@ impl Putting {
     }
 
     fn make(&mut self, dir: INodeId, source: &Source, len: u64, data: Option<&[u8]>) -> Result<INodeId, Error> {
-        let kind = match source.kind {
-            Kind::Dir => FileType::Dir,
-            Kind::SymLink { .. } => FileType::SymLink,
-            Kind::File { .. } | Kind::StandardInput => FileType::File,
-        };
+        let kind = kind_on_card(source);
         let card = &mut self.file.card;
         let inode = match card.create(dir, &source.name, kind) {
             Err(Error::EntryExist) => return self.replace(dir, source, kind, len, data),
@@ -199,17 +197,37 @@ impl Putting {
         Ok(inode)
     }
 
-    fn refused(&self, source: &Source, error: Error) -> Failure {
-        let name = OsStr::from_bytes(&source.name);
+    fn refused(&self, dir: INodeId, source: &Source, error: Error) -> Failure {
         let subject = format!("{}: {}", self.file.path().display(), source.path.display());
-        let failure = Failure::refused(subject, error);
         match error {
-            Error::EntryExist if matches!(source.kind, Kind::Dir) => {
-                failure.advise(format!("{} is no directory on the card.", name.to_string_lossy()))
-            }
-            Error::EntryExist => failure.advise("Give -f to replace the file of that name on the card."),
-            _ => failure,
+            Error::WrongFs | Error::Damaged => self.file.refused_card(error),
+            Error::BadName => bad_name(subject, source.name.len()),
+            Error::InvalidParam => too_long(subject, source.len()),
+            Error::EntryExist => self.is_there(dir, source, &subject),
+            _ => Failure::refused(subject, error),
         }
+    }
+
+    /// Something else has the name on the card.
+    fn is_there(&self, dir: INodeId, source: &Source, subject: &str) -> Failure {
+        let card = &self.file.card;
+        let there = card.find(dir, &source.name).and_then(|inode| card.metadata(inode));
+        let (_, kind) = there.map_or(('?', "something"), |meta| text::kind(meta.kind));
+        let why = format!("the name is that of a {kind} on the card already");
+        let advice = if there.map_or(false, |meta| meta.kind == kind_on_card(source)) {
+            "Give -f to replace it."
+        } else {
+            "Choose another name, or remove what has it by `sfs rm`."
+        };
+        Failure::refused_as(subject, Error::EntryExist, why, advice)
+    }
+}
+
+fn kind_on_card(source: &Source) -> FileType {
+    match source.kind {
+        Kind::Dir => FileType::Dir,
+        Kind::SymLink { .. } => FileType::SymLink,
+        Kind::File { .. } | Kind::StandardInput => FileType::File,
     }
 }
 
