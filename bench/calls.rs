@@ -4,7 +4,7 @@ use crate::library::*;
 use crate::{card, check, dirs, files};
 use oracle::Call;
 
-/// Document 01's number of a refusal, or the call's value: 0 where it has none.
+/// RULES' number of a refusal, or the call's value: 0 where it has none.
 pub type Said = Result<u32, u32>;
 
 /// The inodes that a call names, the second one again where there is one alone. The root stands for none.

@@ -4,11 +4,15 @@
 //! Parts of a case: `call` the library's calls; `check` as many of its checks on the card as it is before them, since
 //! every call first checks the card; `plain` the plain acts without a check; `opening` as many plain checks; `rust` the
 //! calls of the unchanged Rust on a card that it has open; `nothing` the same loop with no call. The check has no part
-//! `check`, nor has format, which checks nothing; and the Rust has no check.
+//! `check`, nor have format, which checks nothing, and the cache; and the Rust has no check.
 
 #[path = "../tests/standin/bytes.rs"]
 #[allow(dead_code)]
 mod bytes;
+#[path = "../tests/standin/cache.rs"]
+#[allow(dead_code)]
+mod cache;
+mod cached;
 mod calls;
 #[path = "../tests/standin/card.rs"]
 mod card;

@@ -40,7 +40,7 @@ impl Measure {
     /// How often the cases are to be run.
     pub fn turns(&self) -> usize {
         match self.how {
-            How::Time => 5,
+            How::Time => 25,
             _ => 1,
         }
     }

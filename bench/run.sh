@@ -1,17 +1,19 @@
 #!/usr/bin/env bash
 # What the library's calls cost beside plain ones in Rust and beside the unchanged Rust: one table, which also goes into
-# docs/PERFORMANCE.md where instructions of the library were counted.
+# docs/PERFORMANCE.md where instructions of the library were counted, or times taken on an x86-64 machine.
 #
 #   run.sh               for x86-64, with the archive that `rt staticlib sfs` makes (SFS_LIB: another one)
 #   run.sh --stand-in    with the plain ones themselves in the archive's place: the ratios are then near 1
 #   run.sh --host        the stand-in, by the rustc of PATH, for this machine
 #   run.sh --time        times, and no count of instructions
+# BENCH_ONLY=cache: the rows of the block cache alone, printed and put nowhere
 #
 # Executed instructions are counted by the emulator where it runs the program (bench/insn.rs), by valgrind where
 # the machine does; without either, times in one run are compared. The first line says which.
 #
 # The emulator is the baseline processor that the library is compiled for, on which the C library's copies have vectors of
-# 16 bytes too (SFS_CPU: another one, as max,-erms with vectors of 32; its table is printed alone).
+# 16 bytes too (SFS_CPU: another one, as max,-erms with vectors of 32; its table is printed alone). By valgrind the C library is
+# told to take that one's copies; with SFS_CPU=max those of this machine, but none by "rep movsb", of which valgrind counts every byte.
 set -euo pipefail
 
 here=$(cd "$(dirname "${BASH_SOURCE[0]}")" && pwd)
@@ -43,7 +45,7 @@ counting() {
 }
 
 how="time"
-unit="nanoseconds, the least of several${RUN:+, under the emulator: only ratios mean anything}"
+unit="microseconds, the least of several${RUN:+, under the emulator: only ratios mean anything}"
 if asked --time; then
     :
 elif [ -n "$RUN" ] && counting; then
@@ -53,6 +55,9 @@ elif [ -z "$RUN" ] && command -v valgrind >/dev/null; then
     how=valgrind
     unit="instructions, counted by valgrind"
 fi
+
+copies=-ERMS,-FSRM
+if [ -z "${SFS_CPU:-}" ]; then copies+=,-AVX2,-AVX512F,-AVX512VL,-AVX_Fast_Unaligned_Load; fi
 
 # Lines CASE|PART|NUMBER
 measure() {
@@ -68,7 +73,7 @@ measure() {
     valgrind)
         # A dump a part, numbered from 1 on.
         rm -f "$out/dump".*
-        valgrind --tool=callgrind --callgrind-out-file="$out/dump" --toggle-collect=measured --dump-after=measured \
+        GLIBC_TUNABLES=glibc.cpu.hwcaps=$copies valgrind --tool=callgrind --callgrind-out-file="$out/dump" --toggle-collect=measured --dump-after=measured \
             "$out/bench" each >"$out/parts" 2>"$out/valgrind.log" || { cat "$out/valgrind.log" >&2 && return 1; }
         n=0
         while read -r name; do
@@ -82,15 +87,22 @@ measure() {
 
 echo "bench: $unit"
 measure >"$out/measured"
-awk -f "$here/table.awk" "$out/measured" | tee "$out/table"
+times=0
+if [ "$how" = time ]; then times=1; fi
+awk -v times=$times -f "$here/table.awk" "$out/measured" | tee "$out/table"
 
-# The table stands in the document between two lines of its own.
-if [ "$how" != time ] && [ -z "${SFS_CPU:-}" ] && ! asked --stand-in && ! asked --host; then
-    document=$root/docs/PERFORMANCE.md
-    awk -v table="$out/table" '/^<!-- end of the table -->$/ { inside = 0 }
-        !inside { print }
-        /^<!-- table of bench\/run.sh -->$/ { inside = 1; while ((getline line < table) > 0) print line }' \
-        "$document" >"$out/document"
-    cp "$out/document" "$document"
-    echo "bench: the table is in docs/PERFORMANCE.md"
+# The tables stand in the document between lines of their own: instructions, and times where the machine is x86-64 itself.
+if [ -n "${SFS_CPU:-}${BENCH_ONLY:-}" ] || asked --stand-in || asked --host; then exit 0; fi
+if [ "$how" != time ]; then
+    title="table of bench/run.sh"
+elif [ -z "$RUN" ]; then
+    title="times of bench/run.sh --time"
+else
+    exit 0
 fi
+document=$root/docs/PERFORMANCE.md
+awk -v table="$out/table" -v begin="<!-- $title -->" '/^<!-- end of the table -->$/ { inside = 0 }
+    !inside { print }
+    $0 == begin { inside = 1; while ((getline line < table) > 0) print line }' "$document" >"$out/document"
+cp "$out/document" "$document"
+echo "bench: the table is in docs/PERFORMANCE.md"

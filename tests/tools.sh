@@ -1,4 +1,4 @@
-# shellcheck shell=bash disable=SC2034,SC2154
+# shellcheck shell=bash disable=SC2034,SC2154,SC2119,SC2120
 # Sourced by the scripts that build programs for x86-64 outside of the proved code.
 #
 # need_outside_tools finds, and where it can installs, what that takes, and sets
@@ -6,7 +6,13 @@
 #   RUN    what runs a program it built: nothing on x86-64, the emulator with its flags elsewhere
 # Elsewhere the programs are static: the emulator has no libraries of x86-64 to load.
 #
-# What the scripts share besides: read_options, use_tools, compile, take_archive, build_beside, step. They use `root` and `out`.
+# make_archive proves the library and makes its archive, where that is not done already.
+#
+# What the scripts share besides: read_options, use_tools, compile, take_archive, build_beside, step; and tests/sources.sh. They
+# use `root` and `out`.
+
+# shellcheck source=sources.sh
+. "$(dirname "${BASH_SOURCE[0]}")/sources.sh"
 
 outside_tools_missing() {
     local file missing=()
@@ -19,41 +25,93 @@ outside_tools_missing() {
     echo "${missing[*]}"
 }
 
+# tools_wanted [cargo]: the packages of Debian that are to be installed before programs for x86-64 can be built here, on x86-64 by cargo
+# where that is said; none where all is there
+tools_wanted() {
+    local wanted=()
+    if [ "$(uname -m)" = x86_64 ]; then
+        command -v rustc >/dev/null || wanted+=(rustc)
+        command -v cc >/dev/null || wanted+=(gcc libc6-dev)
+        [ "${1:-}" != cargo ] || command -v cargo >/dev/null || wanted+=(cargo)
+    elif [ -n "$(outside_tools_missing)" ]; then
+        wanted=(rustc libstd-rust-dev:amd64 libc6-dev:amd64 gcc-x86-64-linux-gnu qemu-user)
+    fi
+    echo "${wanted[*]}"
+}
+
+# install_outside_tools PACKAGE..
 install_outside_tools() {
     local apt=(apt-get -qq -o DPkg::Lock::Timeout=300)
     command -v apt-get >/dev/null && [ "$(id -u)" = 0 ] || return 1
-    if [ $# -eq 0 ]; then
+    echo "Installing from Debian, by apt-get: $*" >&2
+    if [ "$(uname -m)" != x86_64 ]; then
         dpkg --add-architecture amd64 || return 1
-        set -- rustc libstd-rust-dev:amd64 libc6-dev:amd64 gcc-x86-64-linux-gnu qemu-user
     fi
     "${apt[@]}" update >/dev/null &&
         DEBIAN_FRONTEND=noninteractive "${apt[@]}" install -y --no-install-recommends "$@" >/dev/null
 }
 
 need_outside_tools() {
-    local missing
+    local wanted
+    wanted=$(tools_wanted "$@")
+    if [ -n "$wanted" ]; then
+        # shellcheck disable=SC2086
+        install_outside_tools $wanted || true
+        wanted=$(tools_wanted "$@")
+        if [ -n "$wanted" ]; then
+            echo "tools.sh: programs for x86-64 cannot be built here; apt-get could not install: $wanted" >&2
+            return 1
+        fi
+    fi
     RUN=
     if [ "$(uname -m)" = x86_64 ]; then
-        if ! command -v rustc >/dev/null && ! install_outside_tools rustc gcc libc6-dev; then
-            echo "tools.sh: there is no rustc, and apt-get could not install it" >&2
-            return 1
-        fi
         RUSTC="rustc -C relocation-model=static"
         return 0
-    fi
-    if [ -n "$(outside_tools_missing)" ]; then
-        install_outside_tools || true
-        missing=$(outside_tools_missing)
-        if [ -n "$missing" ]; then
-            echo "tools.sh: programs for x86-64 cannot be built here; apt-get could not install: $missing" >&2
-            return 1
-        fi
     fi
     # Debian's compiler by its full name: another one may come first in PATH and has no library for x86-64.
     RUSTC="/usr/bin/rustc --target x86_64-unknown-linux-gnu -C target-feature=+crt-static"
     RUSTC="$RUSTC -C relocation-model=static -C linker=x86_64-linux-gnu-gcc"
     # Without "erms" the C library copies by vectors: under the emulator some 15 times as fast as by "rep movsb".
     RUN="qemu-x86_64 -cpu max,-erms"
+}
+
+# What the archive hangs on, and the archive: the crates that sfs reaches (a crate is listed after those that it uses), and the kit.
+archive_state() {
+    local reached
+    reached=$(tac "$root/crates.txt" | awk -F: 'BEGIN { wanted["sfs"] = 1 }
+        $1 in wanted { print $1; n = split($2, uses, " "); for (i = 1; i <= n; i++) wanted[uses[i]] = 1 }')
+    (
+        cd "$root" && rt version
+        for crate in $reached; do find "crates/$crate/"{src,specs,proofs} -type f 2>/dev/null; done | LC_ALL=C sort | xargs sha256sum
+        sha256sum crates.txt target/staticlib/libsfs.a
+    ) 2>/dev/null
+}
+
+# archive_made: whether the archive is there, made of what is there
+archive_made() {
+    local state=$root/target/staticlib/state
+    [ -f "$state" ] && [ "$(cat "$state")" = "$(archive_state)" ]
+}
+
+# What proving the library and making its archive takes from nothing.
+archive_takes="five to ten minutes on two processors, and less where most of it is proved already"
+
+# make_archive: target/staticlib/libsfs.a, of what was proved. Passes on what rt says of each crate; all of it is in
+# target/staticlib/log. Where nothing has changed since it was made, nothing is said and done.
+make_archive() {
+    local made=$root/target/staticlib
+    if archive_made; then return 0; fi
+    mkdir -p "$made"
+    rm -f "$made/state"
+    echo "Proving the library's crates; each is named when it is done."
+    # rt staticlib proves one crate after the other, rt check as many at once as there are processors.
+    (cd "$root" && rt check sfs && echo "rt: making the archive .." && rt staticlib sfs) 2>&1 | tee "$made/log" |
+        grep --line-buffered '^rt: ' | grep --line-buffered -v 'unchanged since it was last proved'
+    if [ "${PIPESTATUS[0]}" -ne 0 ]; then
+        tail -n 20 "$made/log"
+        return 1
+    fi
+    archive_state >"$made/state"
 }
 
 # read_options "--WORD .." "$@": the options, which must be among the words. `asked --WORD` tells of one; `place` is

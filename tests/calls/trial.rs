@@ -65,7 +65,7 @@ impl Trial {
         Ok(())
     }
 
-    /// Each call once, in any order. 01 decides by the card and the scratch alone, and nothing is changed.
+    /// Each call once, in any order. RULES decides by the card and the scratch alone, and nothing is changed.
     fn damaged(&mut self, base: &Base, answer: &Answer, rng: &mut Rng) -> Result<(), String> {
         for which in order(rng) {
             let call = Asker { rng, image: &base.card.image, tree: &base.tree }.call(which);
@@ -78,7 +78,7 @@ impl Trial {
         Ok(())
     }
 
-    /// Each call twice, judged by 01 and the Rust; each now and then with too little scratch before.
+    /// Each call twice, judged by RULES and the Rust; each now and then with too little scratch before.
     fn whole(&mut self, rng: &mut Rng) -> Result<(), String> {
         for which in order(rng).into_iter().chain(order(rng)) {
             let call = Asker { rng, image: self.pair.image(), tree: &self.pair.tree }.call(which);

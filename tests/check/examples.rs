@@ -80,7 +80,7 @@ fn lines(text: &str) -> Vec<String> {
     lines
 }
 
-/// 01's first tried example: 16 blocks formatted.
+/// RULES' first tried example: 16 blocks formatted.
 fn fresh() -> Made<Vec<u8>> {
     let mut image = vec![0; 16 * BLOCK];
     let edits = "put32 0 0x2f8dbe2b; put32 4 16; put32 8 12; put32 44 1; put8 2:0 0xf0; put8 2:1 0xff; \

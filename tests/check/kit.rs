@@ -1,4 +1,4 @@
-//! What the outside tests share: cards made from a seed, the rules of document 01, and memory to lend.
+//! What the outside tests share: cards made from a seed, the rules of a whole card (RULES), and memory to lend.
 
 pub mod cards;
 pub mod options;

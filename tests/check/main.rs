@@ -1,4 +1,4 @@
-//! check_fuzz: the library's check beside the rules of document 01, on whole cards that were changed.
+//! check_fuzz: the library's check beside RULES, "When a card is whole", on whole cards that were changed.
 //!
 //!     check_fuzz [--seed S] [--cases N] [--seconds T] [--case C] [--save DIR]
 //!     check_fuzz --time-linear

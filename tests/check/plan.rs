@@ -1,7 +1,8 @@
-//! A tree of files put on a card, straight from the layout of document 01 ("The card"). A plan says what is
+//! A tree of files put on a card, straight from the layout of RULES ("The card"). A plan says what is
 //! there and keeps account of the blocks it will take; `card` gives every part its blocks and writes the bytes.
 
 use crate::rng::Rng;
+use std::collections::BTreeSet;
 
 pub const BLOCK: usize = 4096;
 pub const ENTRY: usize = 260;
@@ -25,7 +26,7 @@ pub enum Fill {
     Numbers,
 }
 
-/// The blocks that a file of b blocks owns: 01's N(b).
+/// The blocks that a file of b blocks owns: RULES' N(b).
 pub fn owned(b: usize) -> usize {
     b + if b >= 12 { 1 } else { 0 } + if b >= 1036 { 2 + (b - 1036) / 1024 } else { 0 }
 }
@@ -121,6 +122,18 @@ impl Plan {
         if mixed {
             rng.shuffle(&mut free);
         }
+        self.laid(rng, fill, free)
+    }
+
+    /// The card whose free blocks are these, as many as the plan leaves; the others are given out in rising order.
+    pub fn card_leaving(&self, rng: &mut Rng, fill: Fill, free: &[u32]) -> Card {
+        let kept: BTreeSet<u32> = free.iter().copied().collect();
+        let taken = (3..self.blocks as u32).rev().filter(|block| !kept.contains(block));
+        self.laid(rng, fill, free.iter().copied().chain(taken).collect())
+    }
+
+    /// Blocks are given out from the last of `free` on.
+    fn laid(&self, rng: &mut Rng, fill: Fill, mut free: Vec<u32>) -> Card {
         let mut take = |n: usize| -> Vec<u32> { (0..n).map(|_| free.pop().expect("planned")).collect() };
         let inodes: Vec<Inode> = self
             .nodes

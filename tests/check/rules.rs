@@ -1,4 +1,4 @@
-//! The check of a card once more, from document 01's text, rule by rule: the inodes are gathered by closure,
+//! The check of a card once more, from RULES, "When a card is whole", rule by rule: the inodes are gathered by closure,
 //! everything owned is listed and sorted, and each rule is a function over that. It marks nothing while it walks.
 //!
 //! Any bytes may be given. A damaged card may claim any size: nothing is read before its numbers are below

@@ -1,5 +1,5 @@
 #!/usr/bin/env bash
-# The library's check beside the rules of document 01: made and damaged cards, hostile ones, and the examples.
+# The library's check beside RULES, "When a card is whole": made and damaged cards, hostile ones, and the examples.
 #
 #   run.sh               for x86-64, by the tools of tests/tools.sh, with the archive that `rt staticlib sfs` makes
 #   run.sh --stand-in    with the plain Rust of tests/standin in the archive's place, to try the tests themselves
@@ -25,11 +25,14 @@ compile kit "$here/kit.rs" --crate-type rlib --out-dir "$out/lib"
 compile check_fuzz "$here/main.rs" --extern kit -o "$out/check_fuzz"
 compile check_stdin "$here/stdin.rs" -o "$out/check_stdin"
 compile check_examples "$here/examples.rs" --extern kit -o "$out/check_examples"
-"$here/../oracle/build.sh" "$root/target/oracle/$place" release
-compile check_oracle "$here/oracle.rs" --extern kit -L "$root/target/oracle/$place/release" --extern oracle \
-    -o "$out/check_oracle"
-
-step oracle "${run[@]}" "$out/check_oracle" 60
+if find_sources; then
+    "$here/../oracle/build.sh" "$root/target/oracle/$place" release
+    compile check_oracle "$here/oracle.rs" --extern kit -L "$root/target/oracle/$place/release" --extern oracle \
+        -o "$out/check_oracle"
+    step oracle "${run[@]}" "$out/check_oracle" 60
+else
+    echo "check: made cards are not put to the Rust: its sources are not at hand"
+fi
 step fuzz "${run[@]}" "$out/check_fuzz" --seed "${CHECK_SEED:-1}" --cases "${CHECK_CASES:-30000}" \
     --seconds "${CHECK_SECONDS:-75}" --save "$out"
 step linear "${run[@]}" "$out/check_fuzz" --time-linear

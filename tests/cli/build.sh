@@ -1,6 +1,7 @@
 # shellcheck shell=bash disable=SC2034
 # Sourced by the scripts here: builds the crate and the command sfs, for x86-64 with the proved archive.
 #
+#   announce          says what will be done, how long it takes and what will be installed
 #   build_for "$@"    takes --stand-in (plain Rust in the archive's place) or --host (that, for this machine)
 #
 # On x86-64 and with --host it is cargo that builds. Elsewhere cargo has no compiler for x86-64 that it can drive, so
@@ -15,6 +16,18 @@ here=$(cd "$(dirname "${BASH_SOURCE[0]}")" && pwd)
 root=$(cd "$here/../.." && pwd)
 # shellcheck source=../tools.sh
 . "$here/../tools.sh"
+
+announce() {
+    local wanted
+    wanted=$(tools_wanted cargo)
+    echo "The command sfs is built, with the archive of the proved library."
+    if ! archive_made; then
+        echo "The library is proved first: $archive_takes. The next time nothing of it is done again."
+    fi
+    if [ -n "$wanted" ]; then
+        echo "These packages of Debian are missing, and are installed first where apt-get may: $wanted"
+    fi
+}
 
 build_for() {
     local place=x86_64 stand_in=
@@ -46,14 +59,12 @@ find_tools() {
         how=cargo
         return
     fi
-    need_outside_tools || return 1
+    need_outside_tools cargo || return 1
     how=rustc
     if [ "$(uname -m)" = x86_64 ]; then
         how=cargo
         # By cargo's own flags: the archive may stand anywhere in memory.
         RUSTC=rustc
-        command -v cargo >/dev/null || install_outside_tools cargo ||
-            { echo "cli: there is no cargo, and apt-get could not install it" >&2 && return 1; }
     fi
     read -r -a rustc <<<"$RUSTC"
     read -r -a run <<<"$RUN"
@@ -67,7 +78,7 @@ take_archive() {
         archive=$SFS_LIB
     else
         archive=$root/target/staticlib/libsfs.a
-        (cd "$root" && rt staticlib sfs >"$out/rt.log" 2>&1) || { cat "$out/rt.log" && return 1; }
+        make_archive || return 1
     fi
 }
 

@@ -40,6 +40,27 @@ refused() {
     [ ! -f "$card" ] || cmp -s "$card" before || fail "sfs $*: refused, but the card file changed"
 }
 
+# says STATUS LINE ADVICE WORDS..: refused as above, with exactly that first line; ADVICE is in what follows, or is empty and
+# nothing follows
+says() {
+    local line=$2 advice=$3
+    refused "$1" "" "${@:4}"
+    [ "$(head -n 1 err)" = "$line" ] || fail "sfs ${*:4}: it said '$(head -n 1 err)', not '$line'"
+    if [ -n "$advice" ]; then
+        tail -n +2 err | grep -qF -- "$advice" || fail "sfs ${*:4}: it did not advise '$advice': $(cat err)"
+    else
+        [ "$(wc -l <err)" = 1 ] || fail "sfs ${*:4}: it said more: $(cat err)"
+    fi
+}
+
+# sample: card.img, with the directory d and in it the file f, which is here too
+sample() {
+    done_ format card.img 64K >/dev/null
+    done_ mkdir card.img d
+    echo text >f
+    done_ put card.img f d/f
+}
+
 unused() {
     "$sfs" check "$1" | sed 's/.*, \([0-9,]*\) unused/\1/' | tr -d ,
 }

@@ -6,10 +6,7 @@ here=$(cd "$(dirname "${BASH_SOURCE[0]}")" && pwd)
 # shellcheck source=lib.sh
 . "$here/lib.sh"
 
-done_ format card.img 64K >/dev/null
-done_ mkdir card.img d
-echo text >f
-done_ put card.img f d/f
+sample
 
 # The library's refusals, each with its number.
 head -c 65536 /dev/urandom >noise
@@ -20,15 +17,15 @@ printf '\377' | dd of=broken bs=1 seek=8 conv=notrunc status=none
 refused 3 "damaged" check broken
 refused 3 "damaged" put broken f /
 head -c 40000 card.img >short
-refused 3 "damaged" check short
+refused 3 "at least 65,536 bytes" check short
 : >none
-refused 3 "damaged" check none
+refused 3 "at least 65,536 bytes" check none
 refused 5 "directory" cat card.img d
 refused 5 "directory" resize card.img d 0
 refused 6 "not a directory" put card.img f d/f/x
 refused 6 "not a directory" tree card.img d/f
 refused 7 "Give the directory by its name" rm card.img d/..
-refused 7 "" rm -r card.img /
+refused 7 "root directory" rm -r card.img /
 refused 7 "ln -s" ln card.img d e
 refused 8 "255 bytes" mkdir card.img "$(printf 'n%.0s' {1..256})"
 refused 9 "already" mkdir card.img d
@@ -64,7 +61,7 @@ refused 74 "-f" format noise
 truncate -s 3G huge
 refused 14 "too few" put card.img huge /
 truncate -s 5G huge
-refused 12 "" put card.img huge /
+refused 12 "4,294,967,295" put card.img huge /
 rm huge
 refused 64 "no such command" frobnicate card.img
 refused 64 "missing" ls

@@ -4,7 +4,7 @@
 set -euo pipefail
 # shellcheck source=build.sh disable=SC2154
 . "$(dirname "${BASH_SOURCE[0]}")/build.sh"
-echo "building the command, with the archive of the proved library .."
+announce
 build_for "$@"
 work=$(mktemp -d)
 trap 'rm -rf "$work"' EXIT

@@ -1,4 +1,4 @@
-//! The tree on a whole card, read from its bytes by the layout of document 01.
+//! The tree on a whole card, read from its bytes by the layout of RULES, "The card".
 
 use crate::look::content;
 use kit::plan::{BLOCK, ENTRY};

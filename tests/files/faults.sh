@@ -2,7 +2,7 @@
 # Do these tests notice a fault? Each line below is one in the file of tests/standin that it names first, as
 # tests/faults.sh says. files_test must find every one; where it does not, that is printed.
 # By the rustc of PATH, for this machine; some four minutes. FILES_SECONDS: time for the days of one fault. FILES_ONLY:
-# one part of the tests alone (edges, bytes, refusals or days). An argument: only the faults that hold this text.
+# one part of the tests alone (edges, bytes, refusals, maps or days). An argument: only the faults that hold this text.
 set -euo pipefail
 here=$(cd "$(dirname "${BASH_SOURCE[0]}")" && pwd)
 root=$(cd "$here/../.." && pwd)
@@ -30,6 +30,7 @@ files: image[MAP + block / 8] |= 1 << (block % 8); ==> image[MAP + block / 8] |=
 files:         give(image, word(image, file + INDIRECT_AT));\n ==> 
 files:         give(image, word(image, file + DOUBLE_AT));\n ==> 
 files: let bit = self.bits.trailing_zeros() as usize; ==> let bit = 63 - self.bits.leading_zeros() as usize; ;; self.bits &= self.bits - 1; ==> self.bits ^= 1 << bit;
+files: while self.bits == 0 { ==> while self.bits == 0 || self.bits == 1 << 63 && self.at == MAP + 8 {
 files: at: MAP,\n            bits: long(image, MAP), ==> at: MAP + 8 * usize::from(word(image, 4) > 900),\n bits: long(image, MAP + 8 * usize::from(word(image, 4) > 900)),
 files:         let block = free.take(image);\n        put(image, file + INDIRECT_AT, block); ==>         let data = free.take(image);\n put(image, file + DIRECT_AT + 4 * old, data);\n let block = free.take(image);\n put(image, file + INDIRECT_AT, block); ;; let mut i = old; ==> let mut i = old + usize::from(old < DIRECT && new >= DIRECT);
 files:     if old < DIRECT && new >= DIRECT {\n        let block = free.take(image);\n        put(image, file + INDIRECT_AT, block);\n    }\n ==>  ;;     let double = pointer(image, file + DOUBLE_AT);\n    for j in seconds(old) ==>     if old < DIRECT && new >= DIRECT {\n let block = free.take(image);\n put(image, file + INDIRECT_AT, block);\n }\n let double = pointer(image, file + DOUBLE_AT);\n for j in seconds(old)

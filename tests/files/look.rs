@@ -1,4 +1,4 @@
-//! What a card holds, read from its bytes by the layout of document 01.
+//! What a card holds, read from its bytes by the layout of RULES, "The card".
 
 use crate::expect::{field, size};
 use kit::plan::BLOCK;

@@ -1,8 +1,8 @@
 //! files_test: read, write and resize of libsfs.a beside the unchanged Rust, compared after every call.
 //!
-//!     files_test [--seed S] [--days N] [--seconds T] [--long] [--only edges|bytes|refusals|days] [--day D]
+//!     files_test [--seed S] [--days N] [--seconds T] [--long] [--only edges|bytes|refusals|maps|days] [--day D]
 //!
-//! The edges, bytes and refusals are fixed; --long takes all pairs of lengths at the edges. Then days of random calls are
+//! The edges, bytes, refusals and maps are fixed; --long takes all pairs of lengths at the edges. Then days of random calls are
 //! run until N are done or T seconds have gone. --day runs one day again. A difference is printed with its case and
 //! ends the program with 1.
 
@@ -13,6 +13,7 @@ mod expect;
 mod lent;
 mod library;
 mod look;
+mod maps;
 mod pair;
 mod refusals;
 mod starts;
@@ -50,6 +51,9 @@ fn run(options: &Options, pair: &mut Pair) -> Result<String, String> {
     }
     if options.wants("refusals") {
         told.push(format!("{} refusals", refusals::run(pair, options.seed)?));
+    }
+    if options.wants("maps") {
+        told.push(format!("{} maps", maps::run(pair, options.seed)?));
     }
     if options.wants("edges") {
         let edges = edges::edges(options.long);

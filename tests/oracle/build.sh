@@ -1,19 +1,21 @@
 #!/usr/bin/env bash
 # Builds the judge: build.sh OUTDIR [debug|release]
 #
-# The four given sources are laid under OUTDIR/src beside the shims, unchanged, and everything is built by
-# plain compiler calls. RUSTC may hold another compiler with its flags, as tests/tools.sh sets it; SFS_SOURCES
-# another place of the sources. Leaves OUTDIR/PROFILE/sfs_oracle and the libraries *.rlib.
+# Four files of occlum/sefs (tests/sources.sh finds them) are laid under OUTDIR/src beside the shims, unchanged, and everything
+# is built by plain compiler calls. RUSTC may hold another compiler with its flags, as tests/tools.sh sets it. Leaves
+# OUTDIR/PROFILE/sfs_oracle and the libraries *.rlib.
 set -euo pipefail
 
 here=$(cd "$(dirname "${BASH_SOURCE[0]}")" && pwd)
+root=$(cd "$here/../.." && pwd)
+# shellcheck source=../sources.sh
+. "$here/../sources.sh"
 if [ $# -lt 1 ] || [ $# -gt 2 ]; then
     echo "usage: build.sh OUTDIR [debug|release]" >&2
     exit 2
 fi
 out=$1
 profile=${2:-release}
-sources=${SFS_SOURCES:-$here/../../../shared/docs/src}
 read -r -a rustc <<<"${RUSTC:-rustc}"
 
 case $profile in
@@ -26,10 +28,11 @@ release) flags=(-C opt-level=3 -C debug-assertions=off -C overflow-checks=off) ;
     ;;
 esac
 
-if [ ! -f "$sources/rcore-fs-sfs/src/lib.rs" ]; then
-    echo "build.sh: the Rust sources are not at $sources" >&2
+if ! find_sources; then
+    say_sources >&2
     exit 1
 fi
+sources=$SFS_SOURCES
 (cd "$sources" && sha256sum --quiet --check "$here/sources.sha256") || {
     echo "build.sh: the sources are not those the answers were recorded from" >&2
     exit 1

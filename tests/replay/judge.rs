@@ -1,4 +1,4 @@
-//! A card, and what the unchanged Rust tells of a call on it; 01 where docs/DIFFERENCES.md has a row.
+//! A card, and what the unchanged Rust tells of a call on it; RULES where docs/DIFFERENCES.md has a row.
 
 use crate::decide::{decide, Decided, Values};
 use crate::mend::Mend;
@@ -30,7 +30,7 @@ impl Told {
 pub struct Judge {
     pub image: Vec<u8>,
     pub tree: Tree,
-    /// How often each number was told, by the Rust and by 01 alone.
+    /// How often each number was told, by the Rust and by RULES alone.
     pub tally: BTreeMap<u32, [usize; 2]>,
 }
 
@@ -49,7 +49,7 @@ impl Judge {
         self.image = image;
     }
 
-    /// The call's answer; the card is as 01 leaves it afterwards.
+    /// The call's answer; the card is as RULES leaves it afterwards.
     pub fn tell(&mut self, call: &Call, scratch: usize) -> Result<Told, String> {
         let decided = self.decided(call, scratch);
         let told = if decided.rust {
@@ -78,7 +78,7 @@ impl Judge {
         decide(&self.image, &self.tree, call)
     }
 
-    /// The Rust must answer as 01 does, or the recorder is wrong.
+    /// The Rust must answer as RULES does, or the recorder is wrong.
     fn ask_rust(&mut self, call: &Call, decided: &Decided) -> Result<Told, String> {
         if let Call::Format { .. } = call {
             // Nothing of the old card is kept.
@@ -89,7 +89,7 @@ impl Judge {
         let (mut told, name) = told_of(call, outcome)?;
         let bytes = decided.values.bytes.is_empty() || told.bytes.as_ref() == Some(&decided.values.bytes);
         if told.number != decided.status || told.words != decided.values.words || !bytes {
-            return Err(format!("the Rust: {:?}, and 01: {:?}", told, decided));
+            return Err(format!("the Rust: {:?}, and RULES: {:?}", told, decided));
         }
         let done = told.number == 0;
         let made = match call {

@@ -42,7 +42,7 @@ fn main() {
         std::process::exit(1);
     });
     for (number, [rust, alone]) in &judge.tally {
-        println!("{:>2}: {:>5} by the Rust, {:>4} by 01", number, rust, alone);
+        println!("{:>2}: {:>5} by the Rust, {:>4} by RULES", number, rust, alone);
     }
     let alone: usize = judge.tally.values().map(|by| by[1]).sum();
     println!(

@@ -18,21 +18,32 @@ out=$root/target/replay/$place
 recording=$root/crates/replay/stdin
 line=$root/crates/replay/stdout
 mkdir -p "$out/lib"
-compile kit "$here/../check/kit.rs" --crate-type rlib --out-dir "$out/lib"
-"$here/../oracle/build.sh" "$root/target/oracle/$place" release
-compile record "$here/record.rs" --extern kit -L "$root/target/oracle/$place/release" --extern oracle -o "$out/record"
 
-step record "${run[@]}" "$out/record" "$out/recording"
-[ "$failed" = 0 ] || exit 1
-told=$(tail -n 1 "$out/record.log")
-if asked --record; then
-    cp "$out/recording" "$recording"
-    echo "$told" | sed -E 's/record: ([0-9]+) cards, ([0-9]+) calls.*/cards \1 calls \2 agree \2/' >"$line"
-    exit 0
-fi
-if ! cmp "$out/recording" "$recording"; then
-    echo "replay: FAILED: the Rust's recording is not that of crates/replay/stdin"
-    exit 1
+# The recording by the Rust once more, compared, or with --record written anew.
+again() {
+    local told
+    compile kit "$here/../check/kit.rs" --crate-type rlib --out-dir "$out/lib"
+    "$here/../oracle/build.sh" "$root/target/oracle/$place" release
+    compile record "$here/record.rs" --extern kit -L "$root/target/oracle/$place/release" --extern oracle -o "$out/record"
+    step record "${run[@]}" "$out/record" "$out/recording"
+    [ "$failed" = 0 ] || exit 1
+    told=$(tail -n 1 "$out/record.log")
+    if asked --record; then
+        cp "$out/recording" "$recording"
+        echo "$told" | sed -E 's/record: ([0-9]+) cards, ([0-9]+) calls.*/cards \1 calls \2 agree \2/' >"$line"
+        exit 0
+    fi
+    if ! cmp "$out/recording" "$recording"; then
+        echo "replay: FAILED: the Rust's recording is not that of crates/replay/stdin"
+        exit 1
+    fi
+}
+
+whose="the Rust's"
+if find_sources || asked --record; then
+    again
+else
+    whose="as it was committed, not made again without the Rust sources"
 fi
 if asked --host; then exit 0; fi
 
@@ -49,8 +60,12 @@ one_wrong() {
         failed=1
     fi
 }
+if [ "$("$here/../program.sh" replay <"$recording")" != "$(cat "$line")" ]; then
+    echo "replay: FAILED: the library does not answer as recorded"
+    exit 1
+fi
 # The first call stands at byte 64, after the step that begins card 0: its number, and the sum of the card after it.
 one_wrong $((64 + 36))
 one_wrong $((64 + 56))
-[ "$failed" = 1 ] || echo "replay: the recording is the Rust's; a wrong number and a wrong sum in it are noticed"
+[ "$failed" = 1 ] || echo "replay: the recording is $whose; all $calls answers agree; a wrong number and a wrong sum in it are noticed"
 exit "$failed"

@@ -1,5 +1,5 @@
 //! The check of a card as one writes it in Rust for speed, with nothing proved.
-//! Rules, their order and the answers are document 01's.
+//! Rules, their order and the answers are RULES'.
 
 use crate::bytes::*;
 

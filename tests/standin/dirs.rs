@@ -1,5 +1,5 @@
 //! The calls on directories, with nothing proved. The card is whole and the numbers are inodes'.
-//! What each does, and the order of its refusals, is document 01's.
+//! What each does, and the order of its refusals, is RULES'.
 
 use crate::bytes::*;
 use crate::check::is_named;

@@ -1,5 +1,5 @@
 //! Read, write and resize of a file as one writes them in Rust for speed, with nothing proved.
-//! The card is whole and the number an inode's. What each does, and the order of its refusals, is document 01's.
+//! The card is whole and the number an inode's. What each does, and the order of its refusals, is RULES'.
 
 use crate::bytes::*;
 
@@ -88,7 +88,7 @@ pub fn set_length(image: &mut [u8], file: usize, len: u64) -> Result<(), u32> {
     Ok(())
 }
 
-/// The blocks that a file of b blocks owns: 01's N(b).
+/// The blocks that a file of b blocks owns: RULES' N(b).
 pub fn owned(b: usize) -> usize {
     b + usize::from(b >= DIRECT) + usize::from(b >= DOUBLE) + seconds(b)
 }

@@ -1,8 +1,9 @@
-//! A stand-in for libsfs.a: all of include/sfs.h in plain Rust by document 01's rules, with nothing proved. For trying
+//! A stand-in for libsfs.a: all of include/sfs.h in plain Rust by RULES' rules, with nothing proved. For trying
 //! what uses the library where it is not built, and as the measure for it. build.sh makes the archive.
 #![allow(clippy::missing_safety_doc, clippy::too_many_arguments)]
 
 pub mod bytes;
+pub mod cache;
 pub mod card;
 pub mod check;
 pub mod dirs;
@@ -243,4 +244,54 @@ pub unsafe extern "C" fn sfs_entry_name(entry: *const u8, entry_len: usize) -> u
         entry if entry_len == ENTRY => entry[4..].iter().position(|&byte| byte == 0).unwrap_or(0),
         _ => 0,
     }
+}
+
+#[no_mangle]
+pub unsafe extern "C" fn sfs_cache_start(slots: *mut u32, slots_len: usize) {
+    cache::start(lent_mut(slots, slots_len));
+}
+
+#[no_mangle]
+pub unsafe extern "C" fn sfs_cache_read(
+    device: *mut u8,
+    device_len: usize,
+    data: *mut u8,
+    data_len: usize,
+    slots: *mut u32,
+    slots_len: usize,
+    block: u32,
+    buf: *mut u8,
+    buf_len: usize,
+) -> u32 {
+    let (device, data, slots) = (lent_mut(device, device_len), lent_mut(data, data_len), lent_mut(slots, slots_len));
+    status(cache::read(device, data, slots, block, lent_mut(buf, buf_len)))
+}
+
+#[no_mangle]
+pub unsafe extern "C" fn sfs_cache_write(
+    device: *mut u8,
+    device_len: usize,
+    data: *mut u8,
+    data_len: usize,
+    slots: *mut u32,
+    slots_len: usize,
+    block: u32,
+    buf: *const u8,
+    buf_len: usize,
+) -> u32 {
+    let (device, data, slots) = (lent_mut(device, device_len), lent_mut(data, data_len), lent_mut(slots, slots_len));
+    status(cache::write(device, data, slots, block, lent(buf, buf_len)))
+}
+
+#[no_mangle]
+pub unsafe extern "C" fn sfs_cache_sync(
+    device: *mut u8,
+    device_len: usize,
+    data: *const u8,
+    data_len: usize,
+    slots: *mut u32,
+    slots_len: usize,
+) -> u32 {
+    let (device, slots) = (lent_mut(device, device_len), lent_mut(slots, slots_len));
+    status(cache::sync(device, lent(data, data_len), slots))
 }

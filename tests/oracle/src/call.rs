@@ -108,7 +108,7 @@ pub struct Outcome {
 }
 
 impl Outcome {
-    /// The number of document 01 for this answer; none for a panic or an error that 01 does not have.
+    /// The number of RULES for this answer; none for a panic or an error that RULES does not have.
     pub fn number(&self) -> Option<u32> {
         match &self.answer {
             Answer::Done(_) => Some(0),
@@ -118,7 +118,7 @@ impl Outcome {
     }
 }
 
-/// The one place where the Rust's errors become 01's numbers.
+/// The one place where the Rust's errors become RULES' numbers.
 pub fn number_of(error: FsError) -> Option<u32> {
     match error {
         FsError::WrongFs => Some(2),
@@ -130,7 +130,7 @@ pub fn number_of(error: FsError) -> Option<u32> {
         FsError::DirNotEmpty => Some(11),
         FsError::InvalidParam => Some(12),
         FsError::NoDeviceSpace => Some(14),
-        // Not in the base of 01.
+        // Not in the base of RULES.
         FsError::DirRemoved
         | FsError::NotSameFs
         | FsError::IOCTLError

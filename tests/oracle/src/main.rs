@@ -1,6 +1,6 @@
 //! Reads a script from standard input, one call a line, puts each call to the Rust and prints its answer.
 //!
-//! An answer is 01's number and the call's results, `error NAME` for an error 01 does not number, or
+//! An answer is RULES' number and the call's results, `error NAME` for an error RULES does not number, or
 //! `panic: TEXT`. README.md lists the commands. Ends with 1 if an `expect` or `differs` failed, 2 if the
 //! script makes no sense.
 
@@ -73,7 +73,7 @@ impl Driver {
         Ok(())
     }
 
-    /// 01's answer: the last answer begins with these words, or, for `differs`, does not.
+    /// RULES' answer: the last answer begins with these words, or, for `differs`, does not.
     fn judge(&mut self, words: &[&str], agrees: bool) -> Parsed<()> {
         let (profile, wanted) = match words.split_first() {
             Some((&first, rest)) if first == "debug" || first == "release" => (first, rest),
@@ -89,13 +89,13 @@ impl Driver {
         let begins = format!("{} ", self.answer).starts_with(&format!("{} ", wanted));
         if begins != agrees {
             self.failed += 1;
-            println!("  FAILED: 01 says {}", wanted);
+            println!("  FAILED: RULES says {}", wanted);
         } else if agrees {
-            println!("  01 says {}, so does the Rust", wanted);
+            println!("  RULES says {}, so does the Rust", wanted);
         } else if self.answer.starts_with("not put") {
-            println!("  01 says {}, the Rust is not asked", wanted);
+            println!("  RULES says {}, the Rust is not asked", wanted);
         } else {
-            println!("  01 says {}, the Rust does not", wanted);
+            println!("  RULES says {}, the Rust does not", wanted);
         }
         Ok(())
     }
