@@ -93,5 +93,6 @@ step texts "$here/texts.sh" "$sfs"
 step get "$here/get.sh" "$sfs"
 step copy "$here/copy.sh" "$sfs"
 step large "$here/large.sh" "$sfs"
+step release "$here/release_refused.sh"
 [ -n "${1:-}" ] || step c from_c
 exit $failed

@@ -1,6 +1,7 @@
 #!/usr/bin/env bash
 # Whether what the papers name is there: each definition of docs/RULES.md in its file, each name of docs/PROOFS.md somewhere in the crates or
-# among their must-fail edits, and each file of a crate that a paper in docs/ names.
+# among their must-fail edits, and each file of a crate that a paper in docs/ names; and whether docs/BELIEVED.md lists what believed.sh finds, file by
+# file with its lines, type by type, and in all.
 # It needs nothing but the repository.
 # shellcheck disable=SC2016
 set -euo pipefail
@@ -43,7 +44,7 @@ while IFS= read -r bracket; do
             wrong "RULES names $token, and there is no $file"
             break
         fi
-    done < <(grep -oE '[a-z_]+/((proofs|src)/)?[A-Za-z]+(\.rt)?|`[A-Za-z][^`]*`' <<<"$bracket")
+    done < <(grep -oE '[a-z_]+/((proofs|src)/)?[A-Za-z][A-Za-z0-9]*(\.rt)?|`[A-Za-z][^`]*`' <<<"$bracket")
 done < <(sed -n '/^## The three demands/,$p' "$root/docs/RULES.md" | tr '\n' ' ' | grep -oE '\[[^]]*`[^]]*\]' | grep -v '^\[crates/')
 
 # PROOFS has names in backticks, parts of a record after a point. `ac`, `lem` are what no proof imports; folders of tests are no names.
@@ -62,7 +63,27 @@ for paper in "$root"/docs/*.md; do
     while IFS= read -r path; do
         named=$((named + 1))
         [ -e "$path.antt" ] || [ -e "$path.rt" ] || [ -d "$path" ] || wrong "${paper##*/} names $path, which is not there"
-    done < <(sed 's,rust/[a-z/-]*,,g' "$paper" | grep -oE '\b[a-z_]+/(specs|proofs|src)/[A-Za-z_]+' | grep -v '^crate/' | sort -u)
+    done < <(sed 's,rust/[a-z/-]*,,g' "$paper" | grep -oE '\b[a-z_]+/(specs|proofs|src)/[A-Za-z][A-Za-z0-9_]*' | grep -v '^crate/' | sort -u)
 done
+
+# BELIEVED has a row for each file, with its lines, and one for each type of the code, with its crate; and the sum of the files' lines in a sentence.
+believed=$root/docs/BELIEVED.md
+files=$("$root/tests/docs/believed.sh") || wrong "a promise rests on proofs or on inner definitions"
+types=$("$root/tests/docs/believed.sh" --types) || true
+# differ WHAT FOUND LISTED: the lines of the two that the other has not
+differ() {
+    local line
+    while IFS= read -r line; do
+        [ -z "$line" ] || wrong "BELIEVED does not list $1 $line"
+    done < <(LC_ALL=C comm -23 <(LC_ALL=C sort <<<"$2") <(LC_ALL=C sort <<<"$3"))
+    while IFS= read -r line; do
+        [ -z "$line" ] || wrong "BELIEVED lists $1 $line, which is not so"
+    done < <(LC_ALL=C comm -13 <(LC_ALL=C sort <<<"$2") <(LC_ALL=C sort <<<"$3"))
+    named=$((named + $(wc -l <<<"$2")))
+}
+differ "the file" "$files" "$(sed -nE 's,^\| ([a-z_]+/specs/[A-Za-z0-9]+) \| ([0-9]+) \|.*,\1.antt \2,p' "$believed")"
+differ "the type" "$types" "$(sed -nE 's,^\| `([A-Za-z]+)` \| ([a-z_]+) \|.*,\2 \1,p' "$believed")"
+sum=$(awk '{ n += $2 } END { printf "%d files, %d,%03d lines", NR, n / 1000, n % 1000 }' <<<"$files")
+grep -qF "$sum" "$believed" || wrong "BELIEVED does not say $sum"
 [ "$failed" = 1 ] || echo "docs: all $named names of definitions and files are there"
 exit "$failed"

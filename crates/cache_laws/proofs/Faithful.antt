@@ -6,7 +6,8 @@ use mathlib.Core.List.{List, [], _∷_}
 use native.Mathlib.Omega.{arith}
 use native.Mathlib.Decide.{ℕ-discrete}
 use lib.ListN.{length}
-use Rattle.words.specs.Words.{byte, Apart}
+use Rattle.words.specs.Words.{byte}
+use Rattle.words.specs.Inner.{Apart}
 use Rattle.words.specs.Runs.{copied}
 use Rattle.cache_order.specs.Slots.{slotsIn, statusAt, blockAt, Fit}
 use Rattle.cache.specs.Calls.{Call, ReadCall, WriteCall, SyncCall}

@@ -9,7 +9,8 @@ use native.Mathlib.Decide.{decLt, ℕ-discrete}
 use borrow.Author.Tests.{eq-eqb, ne-eqb}
 use lib.ListN.{length, getD}
 use lib.Dec.{eqb}
-use Rattle.words.specs.Words.{byte, Apart, pick}
+use Rattle.words.specs.Words.{byte, pick}
+use Rattle.words.specs.Inner.{Apart}
 use Rattle.words.specs.Runs.{copied}
 use Rattle.words.proofs.Runs.{length-copied, byte-copied-off, byte-copied-in}
 use Rattle.cache_order.specs.Slots.{slotsIn, statusAt, blockAt, placeAt, Inside, Fits, Differ, Sizes, AllFit, Alone, AllApart, Sound}

@@ -10,7 +10,8 @@ use borrow.Author.Tests.{eq-eqb, ne-eqb}
 use lib.ListN.{length, getD}
 use lib.Seq.{ext-getD}
 use lib.Dec.{eqb}
-use Rattle.words.specs.Words.{byte, Apart, pick}
+use Rattle.words.specs.Words.{byte, pick}
+use Rattle.words.specs.Inner.{Apart}
 use Rattle.words.specs.Runs.{puts, copied, turns}
 use Rattle.words.proofs.Runs.{length-copied, byte-copied-off, byte-copied-in, puts-is, length-puts, byte-puts-off, byte-puts-in, turns-keep}
 use Rattle.cache_order.specs.Slots.{slotsIn, statusAt, blockAt, placeAt, Inside, Fits, Differ, Sizes, AllFit, Alone, AllApart, Sound, Fit}

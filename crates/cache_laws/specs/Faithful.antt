@@ -5,7 +5,8 @@ use mathlib.Core.Path.{_≡_}
 use mathlib.Core.Logic.{_≢_}
 use mathlib.Core.List.{List}
 use lib.ListN.{length}
-use Rattle.words.specs.Words.{byte, Apart}
+use Rattle.words.specs.Words.{byte}
+use Rattle.words.specs.Inner.{Apart}
 use Rattle.cache_order.specs.Slots.{slotsIn, statusAt, blockAt, Sizes, Sound}
 use Rattle.cache_order.specs.Order.{started}
 use Rattle.cache.specs.Calls.{ReadCall, SyncCall}

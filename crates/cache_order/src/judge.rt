@@ -1,6 +1,6 @@
 // What every call tests before it changes anything (request 11: 12).
 ghost use Prim.Native.Nat.{_<_, _*_, _+_};
-ghost use Rattle.words.specs.Words.{Tells};
+ghost use Rattle.words.specs.Inner.{Tells};
 ghost use Rattle.cache_order.specs.Slots.{slotsIn, Inside, Fits, Differ, Sizes, AllFit, Alone, AllApart, Sound, Fit, Marked};
 
 // 2 to 64 slots, with their data.

@@ -19,7 +19,7 @@ use Rattle.card_layout.specs.declared.inode.Decoded.{Decoded}
 use Rattle.card_layout.specs.declared.inode.Decoded.the-variants.{Good, BadKind}
 use Rattle.card_rules.specs.Whole.{Reached, Whole}
 use Rattle.card_rules.proofs.Owners.{inode-below}
-use Rattle.file_blocks.specs.Shape.{Sizes}
+use Rattle.file_blocks.specs.Inner.{Sizes}
 use Rattle.dir_answers.specs.Answers.{ofHead}
 use Rattle.check_walk.proofs.Opened.{the-type as opened-type}
 use Rattle.check_walk.specs.declared.Counts.{Counts}

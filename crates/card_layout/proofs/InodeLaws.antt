@@ -9,7 +9,8 @@ use native.Mathlib.Omega.{arith}
 use lib.Dec.{T, leb, leb→le}
 use lib.ListN.{length, getD, set, replicate, getD-replicate, List·getD-eq-default}
 use native.Mathlib.Decide.{decLt}
-use Rattle.words.specs.Words.{byte, num, word, putNum, putWord, Apart, Bytes}
+use Rattle.words.specs.Words.{byte, num, word, putNum, putWord, Bytes}
+use Rattle.words.specs.Inner.{Apart}
 use Rattle.words.proofs.Numbers.{length-put, num-out, num-same, byte-out, bytes-put, put-num, num-lt, apart, apart-cases, field-out, field-same, first-out, past-first}
 use Rattle.card_layout.specs.declared.BlockId.{BlockId}
 use Rattle.card_layout.specs.declared.inode.FileType.{FileType}

@@ -6,12 +6,14 @@ use mathlib.Core.List.{List}
 use native.Mathlib.Omega.{arith}
 use lib.ListN.{length, getD, take, drop, length-take, length-drop}
 use lib.Seq.{ext-getD, getD-take, getD-drop}
-use Rattle.words.specs.Words.{byte, num, putNum, putWord, Apart, Bytes}
+use Rattle.words.specs.Words.{byte, num, putNum, putWord, Bytes}
+use Rattle.words.specs.Inner.{Apart}
 use Rattle.words.specs.Runs.{copied}
 use Rattle.words.proofs.Numbers.{length-put, num-out, num-frame, num-same, byte-out, bytes-put, put-num, num-lt}
 use Rattle.words.proofs.Runs.{length-copied, byte-copied-off, byte-copied-in, copied-same, bytes-copied}
 use Rattle.card_layout.specs.declared.superblock.SuperBlock.{SuperBlock}
-use Rattle.card_layout.specs.Super.{magic, blocks, unused, maps, superAt, superPut}
+use Rattle.card_layout.specs.Super.{magic, blocks, unused, maps, superPut}
+use Rattle.card_layout.specs.Inner.{superAt}
 
 -- what holds of each superblock that code has
 pub record SuperFits (s : SuperBlock) : Type 0 where

@@ -6,7 +6,8 @@ use native.Mathlib.Omega.{arith}
 use native.Mathlib.Numerals.{add-one}
 use lib.ListN.{length, getD, drop}
 use lib.Seq.{ext-getD, drop-cons}
-use Rattle.words.specs.Words.{Apart, Bytes, num, word, putWord}
+use Rattle.words.specs.Words.{Bytes, num, word, putWord}
+use Rattle.words.specs.Inner.{Apart}
 use Rattle.words.proofs.Numbers.{length-put, num-out, num-same, byte-out, bytes-put, num-lt, put-num}
 use Rattle.card_layout.specs.declared.BlockId.{BlockId}
 use Rattle.card_layout.specs.Inode.{blockId, words, putWords, numberAt}

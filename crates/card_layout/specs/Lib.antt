@@ -3,3 +3,4 @@ pub mod Super
 pub mod Inode
 pub mod Slots
 pub mod Entry
+pub mod Inner

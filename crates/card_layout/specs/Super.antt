@@ -1,7 +1,6 @@
 -- The superblock (RULES): "block 0, 48 bytes: magic at 0, blocks at 4, unused blocks at 8, 32 bytes of text at 12, F at 44".
 use Prim.Native.Nat.{ℕ}
 use mathlib.Core.List.{List}
-use lib.ListN.{take, drop}
 use Rattle.words.specs.Words.{word, putWord}
 use Rattle.words.specs.Runs.{copied}
 use Rattle.card_layout.specs.declared.superblock.SuperBlock.{SuperBlock}
@@ -25,10 +24,6 @@ maps img = word img 44
 -- the card with another unused count
 abbrev pub putUnused : List ℕ → ℕ → List ℕ
 putUnused img v = putWord img 8 v
-
-abbrev pub superAt : List ℕ → SuperBlock
-superAt img =
-    record { magic = magic img; blocks = blocks img; «unused_blocks» = unused img; info = take 32 (drop 12 img); «freemap_blocks» = maps img }
 
 -- the card with this superblock
 unfoldable pub superPut : List ℕ → SuperBlock → List ℕ

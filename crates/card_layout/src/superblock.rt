@@ -3,7 +3,8 @@ ghost use mathlib.Core.Path.{_≡_};
 ghost use Prim.Native.Nat.{_≤_};
 ghost use lib.ListN.{length, take, drop};
 ghost use Rattle.words.specs.Runs.{copied};
-ghost use Rattle.card_layout.specs.Super.{superAt, superPut, unused, putUnused};
+ghost use Rattle.card_layout.specs.Super.{superPut, unused, putUnused};
+ghost use Rattle.card_layout.specs.Inner.{superAt};
 
 pub struct SuperBlock {
     pub magic: u32,

@@ -10,13 +10,15 @@ use native.Mathlib.Decide.{ℕ-discrete, decLt}
 use borrow.Author.Tests.{lt-ltb, le-ltb}
 use lib.ListN.{length, set}
 use lib.Seq.{set-set, set-getD}
-use Rattle.words.specs.Words.{pick, byte, num, putNum, Bytes, Apart}
+use Rattle.words.specs.Words.{pick, byte, num, putNum, Bytes}
+use Rattle.words.specs.Inner.{Apart}
 use Rattle.words.proofs.Numbers.{length-put, byte-out, num-same, num-frame, num-lt, bytes-put, set-put, put-put, put-num}
 use Rattle.words.proofs.Sums.{sumTo-pos}
 use Rattle.card_layout.specs.Super.{unused, putUnused}
 use Rattle.card_map.specs.declared.FreeBlock.the-variants.{At, Nothing}
 use Rattle.card_map.specs.Bits.{mapByte, mapBit, clearBit, setBit, freeBits}
-use Rattle.card_map.specs.Free.{firstFrom, lowest, foundBelow, takenAt, taken, freed}
+use Rattle.card_map.specs.Free.{firstFrom, lowest, takenAt, taken, freed}
+use Rattle.card_map.specs.Inner.{foundBelow}
 use Rattle.card_map.proofs.Map as M
 use Rattle.card_map.proofs.First.{first-is, first-none, first-hit, first-least, first-range, first-on, first-cong}
 

@@ -4,8 +4,6 @@ use mathlib.Core.List.{List}
 use lib.Dec.{eqb, ltb}
 use Rattle.words.specs.Words.{pick}
 use Rattle.card_layout.specs.Super.{unused, putUnused}
-use Rattle.card_map.specs.declared.FreeBlock.{FreeBlock}
-use Rattle.card_map.specs.declared.FreeBlock.the-variants.{At, Nothing}
 use Rattle.card_map.specs.Bits.{mapBit, clearBit, setBit}
 
 -- the first of the n numbers from i on at which f is 1, and i + n where there is none
@@ -16,10 +14,6 @@ firstFrom f i (suc n) = pick (eqb (f i) 1) i (firstFrom f (suc i) n)
 -- the lowest free block from i on below n, and n where there is none (i is at most n)
 unfoldable pub lowest : List ℕ → ℕ → ℕ → ℕ
 lowest img i n = firstFrom (mapBit img) i (n - i)
-
--- what a search answers: a block below n, or nothing
-abbrev pub foundBelow : ℕ → ℕ → FreeBlock
-foundBelow n b = pick (ltb b n) (At (record { 0 = b })) Nothing
 
 -- the card with block b taken: its bit cleared, the unused count one less
 unfoldable pub takenAt : List ℕ → ℕ → List ℕ

@@ -4,7 +4,8 @@ ghost use Prim.Native.Nat.{_+_, _-_, _*_, _/_, _≤_, _<_};
 ghost use lib.ListN.{length};
 ghost use Rattle.card_layout.specs.Sizes.{most};
 ghost use Rattle.card_map.specs.Bits.{mapByte, mapBit, clearBit, setBit};
-ghost use Rattle.card_map.specs.Free.{lowest, foundBelow, takenAt, taken, freed};
+ghost use Rattle.card_map.specs.Free.{lowest, takenAt, taken, freed};
+ghost use Rattle.card_map.specs.Inner.{foundBelow};
 use card_layout::BlockId;
 use card_layout::superblock;
 

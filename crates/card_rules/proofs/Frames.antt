@@ -15,6 +15,7 @@ use Rattle.card_layout.specs.Slots.{seconds}
 use Rattle.card_rules.specs.View.{slot, second, dataAt, fileByte, fileBytes, entries, entry, name, kids, kid, timesNamed, subs, owns}
 use Rattle.card_rules.specs.Whole.{Inode, Dir}
 use Rattle.card_rules.specs.Places.{Place, at-inode, at-indirect, at-double, at-second, at-data, held, InUse}
+use Rattle.card_rules.specs.Same.{SameBlock, SameRecord, SameSlots, SameFile}
 use Rattle.card_rules.proofs.Views.{
   data-direct,
   data-indirect,
@@ -35,28 +36,6 @@ use Rattle.card_rules.proofs.Views.{
   entry-cong,
   name-cong,
 }
-
--- ---- what is the same
-
--- block b
-pub record SameBlock (img out : List ℕ) (b : ℕ) : Type 0 where
-  pub bytes : (k : ℕ) → k < 4096 → byte out (4096 * b + k) ≡ byte img (4096 * b + k)
-
--- the record of inode n
-pub record SameRecord (img out : List ℕ) (n : ℕ) : Type 0 where
-  pub bytes : (k : ℕ) → k < 80 → byte out (4096 * n + k) ≡ byte img (4096 * n + k)
-
--- its record and its pointer blocks: where its blocks stand
-pub record SameSlots (img out : List ℕ) (n : ℕ) : Type 0 where
-  pub rec : SameRecord img out n
-  pub indirect-same : 12 ≤ count img n → SameBlock img out (indirect img n)
-  pub double-same : 1036 ≤ count img n → SameBlock img out (double img n)
-  pub second-same : (j : ℕ) → j < seconds (count img n) → SameBlock img out (second img n j)
-
--- those and its data: all that it has
-pub record SameFile (img out : List ℕ) (n : ℕ) : Type 0 where
-  pub slots : SameSlots img out n
-  pub data-same : (i : ℕ) → i < count img n → SameBlock img out (dataAt img n i)
 
 -- ---- a block
 

@@ -20,26 +20,8 @@ use Rattle.card_rules.specs.Places.{Place, at-inode, at-indirect, at-dou
 use Rattle.card_rules.proofs.Views.{uses-parts}
 use Rattle.card_rules.proofs.Cells.{rank, held-owned}
 use Rattle.card_rules.proofs.Owners.{map-below, listed-once, one-owner, owned-taken, held-below, places-differ, not-zero, not-map}
-use Rattle.card_rules.proofs.Frames.{
-  SameBlock,
-  SameSlots,
-  SameFile,
-  block-from,
-  block-record,
-  block-refl,
-  block-trans,
-  size-is,
-  kind-is,
-  links-is,
-  count-is,
-  inode-is,
-  data-is,
-  owns-is,
-  inode-room,
-  fileByte-is,
-  fileBytes-is,
-  file-held,
-}
+use Rattle.card_rules.specs.Same.{SameBlock, SameSlots, SameFile}
+use Rattle.card_rules.proofs.Frames.{block-from, block-record, block-refl, block-trans, size-is, kind-is, links-is, count-is, inode-is, data-is, owns-is, inode-room, fileByte-is, fileBytes-is, file-held}
 use Rattle.card_rules.proofs.Kept.{SameSuper, SameMap, Steady, blocks-is, super-block, map-blocks, slots-few, sound-by, sound-same, tree-by, whole-same}
 
 -- ---- a change within the blocks of some inodes

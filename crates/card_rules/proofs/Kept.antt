@@ -19,23 +19,8 @@ use Rattle.card_rules.specs.View.{entry, kids, kid, timesNamed, subs, na
 use Rattle.card_rules.specs.Whole.{Sized, Reached, root, down, Inode, Sound, Tree, Whole}
 use Rattle.card_rules.proofs.Views.{uses-parts, kids-of-other, kids-dir}
 use Rattle.card_rules.proofs.Counting.{count-below}
-use Rattle.card_rules.proofs.Frames.{
-  SameBlock,
-  SameRecord,
-  SameSlots,
-  SameFile,
-  block-byte,
-  kind-is,
-  links-is,
-  kids-is,
-  inode-is,
-  owns-is,
-  entry-is,
-  kid-is,
-  dir-is,
-  names-by,
-  subs-by,
-}
+use Rattle.card_rules.specs.Same.{SameBlock, SameRecord, SameSlots, SameFile}
+use Rattle.card_rules.proofs.Frames.{block-byte, kind-is, links-is, kids-is, inode-is, owns-is, entry-is, kid-is, dir-is, names-by, subs-by}
 
 -- ---- superblock and map
 

@@ -10,7 +10,8 @@ use Rattle.card_layout.specs.Super.{blocks, maps}
 use Rattle.card_rules.specs.Places.{Place, held, InUse}
 use Rattle.card_rules.specs.Whole.{Whole}
 use Rattle.card_rules.proofs.Owners.{map-below, held-below}
-use Rattle.card_rules.proofs.Frames.{SameBlock, SameFile, file-held}
+use Rattle.card_rules.specs.Same.{SameBlock, SameFile}
+use Rattle.card_rules.proofs.Frames.{file-held}
 use Rattle.card_rules.proofs.Kept.{super-block, map-blocks, whole-same}
 
 module _ {img out : List ℕ} (w : Whole img) (len : length out ≡ length img)

@@ -1,3 +1,4 @@
 pub mod View
 pub mod Whole
 pub mod Places
+pub mod Same

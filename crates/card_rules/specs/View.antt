@@ -1,4 +1,4 @@
--- The views of a card on any bytes (RULES, "The card"), above the fields of superblock and inode (layout) and the map (freemap).
+-- The views of a card on any bytes (RULES, "The card"), above the fields of superblock and inode (card_layout) and the map (card_map).
 use Prim.Native.Nat.{ℕ, zero, suc, _+_, _-_, _*_, _/_, _%_}
 use mathlib.Core.List.{List, [], _∷_}
 use lib.Dec.{eqb, ltb}

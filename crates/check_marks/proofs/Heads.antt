@@ -11,7 +11,7 @@ use Rattle.card_layout.specs.declared.inode.FileType.the-variants.{File, Dir, S
 use Rattle.card_layout.specs.declared.inode.Head.{Head}
 use Rattle.card_layout.specs.declared.inode.Decoded.the-variants.{Good, BadKind}
 use Rattle.card_rules.specs.Whole.{Inode}
-use Rattle.check_marks.specs.Marks.{HeadOf, HeadFits}
+use Rattle.check_marks.specs.Inner.{HeadOf, HeadFits}
 
 -- ---- decoding by the number of the kind
 

@@ -9,11 +9,12 @@ use native.Mathlib.Numerals.{add-one}
 use native.Mathlib.Decide.{decLt}
 use lib.ListN.{length, getD, length-set}
 use lib.Seq.{getD-set-same, getD-set-other}
-use Rattle.words.specs.Words.{When, word}
+use Rattle.words.specs.Words.{word}
+use Rattle.words.specs.Inner.{When}
 use Rattle.words.specs.Sums.{δ, sumTo}
 use Rattle.words.proofs.Answers.{when-not-true, when-not-false, when-map}
 use Rattle.words.proofs.Sums.{δ-cases, δ-same, sumTo-zero, sumTo-suc, sumTo-term, sumTo-next}
-use Rattle.check_marks.specs.Marks.{Mark, NoMark, Marks, Clash, runUse}
+use Rattle.check_marks.specs.Inner.{Mark, NoMark, Marks, Clash, runUse}
 
 -- ---- marks
 

@@ -7,7 +7,7 @@ use Rattle.card_layout.specs.Slots.{seconds}
 use Rattle.card_rules.specs.View.{second, dataAt, owns}
 use Rattle.card_rules.specs.Places.{Place, at-inode, at-indirect, at-double, at-second, at-data, held, InUse}
 use Rattle.card_rules.proofs.Cells.{held-owned}
-use Rattle.check_marks.specs.Marks.{Marks}
+use Rattle.check_marks.specs.Inner.{Marks}
 use Rattle.check_marks.proofs.Marking.{marked-inside}
 
 module _ (img : List ℕ) (n : ℕ) {u u′ : List ℕ} (m : Marks u u′ (owns img n)) where

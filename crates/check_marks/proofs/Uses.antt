@@ -15,7 +15,7 @@ use Rattle.card_layout.specs.Slots.{seconds}
 use Rattle.card_layout.specs.declared.inode.Head.{Head}
 use Rattle.card_rules.specs.View.{slot, second, dataAt, owns}
 use Rattle.card_rules.proofs.Views.{data-direct, data-indirect, data-double, seconds-none, seconds-some, some-from, owns-parts}
-use Rattle.check_marks.specs.Marks.{runUse, recordUse, slotsAt, levelUse, indirectUse, doubleUse, HeadOf}
+use Rattle.check_marks.specs.Inner.{runUse, recordUse, slotsAt, levelUse, indirectUse, doubleUse, HeadOf}
 
 -- a run of one word, or of none
 pub run-one : (img : List ℕ) (at : ℕ) (t : Bool) (b : ℕ) → runUse img at (pick t 0 1) b ≡ pick t 0 (δ (word img at) b)

@@ -12,7 +12,7 @@ use Rattle.words.proofs.Runs.{byte-zeroed-in}
 use Rattle.card_layout.specs.Entry.{Name}
 use Rattle.card_rules.specs.View.{name, entries}
 use Rattle.card_rules.specs.Whole.{Names}
-use Rattle.check_names.specs.Names.{hash, tag, keyAt, bucketAt, Last, Chains, Alone, Window}
+use Rattle.check_names.specs.InnerNames.{hash, tag, keyAt, bucketAt, Last, Chains, Alone, Window}
 
 -- ---- the chains of a window, key by key
 

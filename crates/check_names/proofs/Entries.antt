@@ -19,7 +19,7 @@ use Rattle.card_layout.specs.declared.slot.Slot.{Slot}
 use Rattle.card_layout.specs.declared.slot.Slot.the-variants.{Direct, Indirect, Double, Past}
 use Rattle.card_rules.specs.View.{dataAt, fileByte, fileBytes, entry, name}
 use Rattle.card_rules.proofs.Views.{data-past, fileByte-at, entry-at, name-at, length-fileBytes, getD-fileBytes}
-use Rattle.check_names.specs.Reading.{Readable}
+use Rattle.check_names.specs.InnerReading.{Readable}
 
 -- ---- the slot that block i falls in
 

@@ -7,12 +7,12 @@ use native.Mathlib.Decide.{ℕ-discrete}
 use borrow.Author.Tests.{eq-eqb, ne-eqb}
 use lib.Dec.{eqb}
 use lib.ListN.{length, getD, drop}
-use Rattle.words.specs.Words.{When}
+use Rattle.words.specs.Inner.{When}
 use Rattle.card_layout.specs.Entry.{uptoNul, Name}
 use Rattle.card_layout.proofs.Names.{nul-here, nul-next, nul-end, upto-no-nul}
 use Rattle.card_rules.specs.View.{name, fileBytes}
 use Rattle.card_rules.proofs.Views.{name-at}
-use Rattle.check_names.specs.Names.{hashOn}
+use Rattle.check_names.specs.InnerNames.{hashOn}
 use Rattle.check_names.proofs.Entries.{name-loaded}
 
 -- what is left of the name of entry e from place i on

@@ -1,2 +1,2 @@
-pub mod Reading
-pub mod Names
+pub mod InnerReading
+pub mod InnerNames

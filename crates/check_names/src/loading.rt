@@ -4,7 +4,7 @@ ghost use Prim.Native.Nat.{_+_, _-_, _*_, _<_, min};
 ghost use Rattle.card_layout.specs.Sizes.{blockSize, entrySize};
 ghost use Rattle.card_layout.specs.Inode.{count};
 ghost use Rattle.card_rules.specs.View.{dataAt, entry, fileBytes};
-ghost use Rattle.check_names.specs.Reading.{Readable, EntryIn, EntryNear};
+ghost use Rattle.check_names.specs.InnerReading.{Readable, EntryIn, EntryNear};
 use card_layout::BLKSIZE;
 use card_layout::BlockId;
 use card_layout::DIRENT_SIZE;

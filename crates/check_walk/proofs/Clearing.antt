@@ -8,7 +8,7 @@ use lib.ListN.{length, getD, take, drop, length-append, length-drop, List·getD-
 use lib.Seq.{length-take-le, getD-take, getD-drop, getD-append-add, ext-getD}
 use Rattle.words.specs.Runs.{zeroed}
 use Rattle.words.proofs.Runs.{length-zeroed, byte-zeroed-off, byte-zeroed-in}
-use Rattle.check_walk.specs.Steps.{Zero}
+use Rattle.check_walk.specs.Inner.{Zero}
 
 -- the first n words are 0, the later ones as they were
 front-zero : (s : List ℕ) (n i : ℕ) → n ≤ length s → i < n → getD (zeroed s 0 n) i 0 ≡ 0

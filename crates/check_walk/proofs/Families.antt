@@ -8,7 +8,7 @@ use native.Mathlib.Numerals.{add-one}
 use borrow.Author.Count.{below-more}
 use borrow.Author.Tests.{eq-eqb, ne-eqb}
 use lib.Dec.{eqb}
-use Rattle.words.specs.Words.{When}
+use Rattle.words.specs.Inner.{When}
 use Rattle.words.specs.Sums.{δ, sumTo}
 use Rattle.words.proofs.Sums.{δ-same, δ-other, δ-le, sumTo-suc, sumTo-zero, sumTo-ones}
 use Rattle.card_layout.specs.Inode.{size, kind, links, count, kindNo, decoded}
@@ -21,7 +21,7 @@ use Rattle.card_rules.specs.Whole.{Inode}
 use Rattle.card_rules.proofs.Views.{kids-of-dir, kids-of-other, kids-dir}
 use Rattle.check_marks.proofs.Heads.{head-kind, head-size}
 use Rattle.words.proofs.Answers.{when-eqb}
-use Rattle.check_walk.specs.Steps.{Kept, Tally}
+use Rattle.check_walk.specs.Inner.{Kept, Tally}
 
 -- a child's entry lies within the directory's blocks
 pub kid-inside : (img : List ℕ) (n j : ℕ) → Inode img n → j < kids img n → 260 * (2 + j) + 260 ≤ 4096 * count img n

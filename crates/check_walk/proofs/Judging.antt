@@ -17,7 +17,7 @@ use Rattle.card_rules.specs.Whole.{Sized, Reached, root, down, Whole}
 use Rattle.card_rules.proofs.Views.{uses-parts, kids-dir}
 use Rattle.check_walk.proofs.Queueing.{pos-suc, queue-le}
 use Rattle.check_walk.proofs.Visiting.{cnt-at}
-use Rattle.check_walk.specs.Steps.{pos, seenAt, Space, Good, Queue, Progress, Family, Tally, Tallies, Bits, Past, Seen}
+use Rattle.check_walk.specs.Inner.{pos, seenAt, Space, Good, Queue, Progress, Family, Tally, Tallies, Bits, Past, Seen}
 
 -- ---- the queue
 

@@ -13,7 +13,7 @@ use Rattle.words.proofs.Sums.{δ-cases, δ-same, δ-comm, sumTo-zero, sumTo-con
 use Rattle.check_marks.proofs.Marking.{count-more, count-next}
 use Rattle.card_rules.specs.View.{kids, kid}
 use Rattle.card_rules.specs.Whole.{Reached, down}
-use Rattle.check_walk.specs.Steps.{pos, seenAt, Queue, Noted, fresh, again, Grown, Lost, many, Scanned}
+use Rattle.check_walk.specs.Inner.{pos, seenAt, Queue, Noted, fresh, again, Grown, Lost, many, Scanned}
 
 -- ---- named or not, as 1 or 0
 

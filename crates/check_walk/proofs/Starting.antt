@@ -16,7 +16,7 @@ use Rattle.card_layout.specs.Super.{maps}
 use Rattle.card_rules.specs.View.{timesNamed, owns}
 use Rattle.card_rules.specs.Whole.{Reached, root}
 use Rattle.card_rules.proofs.Views.{uses-parts}
-use Rattle.check_walk.specs.Steps.{pos, seenAt, ownAt, Zero, started, Space, Progress}
+use Rattle.check_walk.specs.Inner.{pos, seenAt, ownAt, Zero, started, Space, Progress}
 
 -- how often b is among 2 .. 1 + f
 maps-in : (f k b : ℕ) → k < f → b ≡ 2 + k → sumTo (λ i. δ (2 + i) b) f ≡ 1

@@ -27,12 +27,12 @@ use Rattle.card_rules.proofs.Cells.{held-owned}
 use Rattle.card_rules.proofs.Views.{uses-parts, kids-of-dir, kids-of-other, kids-dir}
 use Rattle.card_rules.proofs.Owners.{inode-below}
 use Rattle.card_rules.proofs.Tree.{reached-listed}
-use Rattle.check_marks.specs.Marks.{Marks, Clash, HeadFits}
+use Rattle.check_marks.specs.Inner.{Marks, Clash, HeadFits}
 use Rattle.check_marks.proofs.Heads.{head-of, head-kind, head-size, fits-inode}
-use Rattle.check_names.specs.Reading.{Readable}
+use Rattle.check_names.specs.InnerReading.{Readable}
 use Rattle.check_walk.specs.declared.queue.End.{End}
 use Rattle.check_walk.specs.declared.queue.End.the-variants.{At, Bad}
-use Rattle.check_walk.specs.Steps.{pos, seenAt, ownAt, Space, Ends, Good, kidsBy, headKids, Taken, Same, Met, Unmet, ill, taken, bad-dir, Queue, Lost, past, many, Scanned, Progress}
+use Rattle.check_walk.specs.Inner.{pos, seenAt, ownAt, Space, Ends, Good, kidsBy, headKids, Taken, Same, Met, Unmet, ill, taken, bad-dir, Queue, Lost, past, many, Scanned, Progress}
 use Rattle.check_walk.proofs.Queueing.{pos-le, queue-le}
 
 -- ---- a step's answer, and the sizes after it

@@ -12,8 +12,6 @@ use Rattle.card_rules.specs.Whole.{Sized, Reached, Whole}
 use Rattle.check_walk.specs.declared.Counts.{Counts}
 use Rattle.check_walk.specs.declared.Opened.{Opened}
 use Rattle.check_walk.specs.declared.Opened.the-variants.{Open, ScratchShort, WrongFs, Damaged, NoInode}
-use Rattle.check_walk.specs.declared.judge.Verdict.{Verdict}
-use Rattle.check_walk.specs.declared.judge.Verdict.the-variants.{Yes, No, Unknown}
 
 -- RULES' number of an answer
 abbrev pub statusOf : Opened → ℕ
@@ -53,9 +51,3 @@ pub data Opening (img s s′ : List ℕ) (a b : ℕ) (r : Opened) : Type 0 where
   scratch-short : Sized img → length s < 4 * blocks img → r ≡ ScratchShort → s′ ≡ s → Opening img s s′ a b r
   wrong-fs : blockSize ≤ length img → (magic img ≡ rightMagic → ⊥) → r ≡ WrongFs → s′ ≡ s → Opening img s s′ a b r
   unsized : (blockSize ≤ length img → magic img ≡ rightMagic) → (Sized img → ⊥) → r ≡ Damaged → s′ ≡ s → Opening img s s′ a b r
-
--- what judging a card of right size says of it and of two numbers
-abbrev pub Judged : Verdict → List ℕ → ℕ → ℕ → Type 0
-Judged Yes img a b = Whole img × Reached img a × Reached img b
-Judged No img a b = Whole img → ⊥
-Judged Unknown img a b = Whole img × (Reached img a → Reached img b → ⊥)

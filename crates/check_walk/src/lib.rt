@@ -2,11 +2,13 @@
 ghost use mathlib.Core.Path.{_≡_};
 ghost use Prim.Native.Nat.{_+_, _*_, _≤_, _<_};
 ghost use lib.ListN.{length};
-ghost use Rattle.words.specs.Words.{Tells};
+ghost use Rattle.words.specs.Inner.{Tells};
 ghost use Rattle.words.specs.Runs.{zeroed};
-ghost use Rattle.card_layout.specs.Super.{rightMagic, blocks, maps, superAt};
+ghost use Rattle.card_layout.specs.Super.{rightMagic, blocks, maps};
+ghost use Rattle.card_layout.specs.Inner.{superAt};
 ghost use Rattle.card_rules.specs.Whole.{Sized};
-ghost use Rattle.check_walk.specs.Opening.{Opening, Judged};
+ghost use Rattle.check_walk.specs.Opening.{Opening};
+ghost use Rattle.check_walk.specs.Inner.{Judged};
 use crate::judge::Verdict;
 use card_layout::BLKSIZE;
 use card_layout::INodeId;

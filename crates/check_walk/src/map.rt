@@ -2,10 +2,10 @@
 ghost use mathlib.Core.Path.{_≡_};
 ghost use Prim.Native.Nat.{ℕ, _+_, _*_, _/_, _%_, _^_, _≤_, _<_};
 ghost use lib.ListN.{length, getD};
-ghost use Rattle.words.specs.Words.{Tells};
+ghost use Rattle.words.specs.Inner.{Tells};
 ghost use Rattle.card_layout.specs.Sizes.{most};
 ghost use Rattle.card_map.specs.Bits.{mapBit, freeBits};
-ghost use Rattle.check_walk.specs.Steps.{ownAt, Space};
+ghost use Rattle.check_walk.specs.Inner.{ownAt, Space};
 use card_layout::BlockId;
 
 // Whether the eight marks from `at` on are v.

@@ -3,7 +3,7 @@ ghost use mathlib.Core.Path.{_≡_};
 ghost use Prim.Native.Nat.{_+_, _*_, _≤_, _<_};
 ghost use lib.ListN.{length};
 ghost use Rattle.card_layout.specs.Sizes.{most, fullLinks};
-ghost use Rattle.check_walk.specs.Steps.{seenAt, Noted, Scannable, Scans};
+ghost use Rattle.check_walk.specs.Inner.{seenAt, Noted, Scannable, Scans};
 use card_layout::INodeId;
 use card_layout::MAX_NLINKS;
 use check_names::loading;

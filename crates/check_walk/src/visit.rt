@@ -1,12 +1,12 @@
 // The walk: each inode of the queue is tested by itself, its blocks are marked, and then its children are noted.
 ghost use mathlib.Core.Path.{_≡_};
 ghost use Prim.Native.Nat.{_+_, _*_, _≤_, _<_};
-ghost use Rattle.words.specs.Words.{When};
+ghost use Rattle.words.specs.Inner.{When};
 ghost use Rattle.card_layout.specs.Super.{blocks};
 ghost use Rattle.card_layout.specs.Inode.{decoded, kind};
 ghost use Rattle.card_rules.specs.Whole.{Dir, Whole};
-ghost use Rattle.check_marks.specs.Marks.{HeadOf};
-ghost use Rattle.check_walk.specs.Steps.{Space, Ends, headKids, Takes, DirRule, DirAsks, Same, Met, Unmet, Progress, Next, Advances};
+ghost use Rattle.check_marks.specs.Inner.{HeadOf};
+ghost use Rattle.check_walk.specs.Inner.{Space, Ends, headKids, Takes, DirRule, DirAsks, Same, Met, Unmet, Progress, Next, Advances};
 use crate::queue;
 use crate::queue::End;
 use card_layout::DIRENT_SIZE;

@@ -17,7 +17,7 @@ use Rattle.card_layout.specs.declared.inode.Decoded.{Decoded}
 use Rattle.card_layout.specs.declared.inode.Decoded.the-variants.{Good, BadKind}
 use Rattle.card_rules.specs.Whole.{Reached, Whole}
 use Rattle.file_requests.proofs.Answers.{owned-below}
-use Rattle.dir_entries.specs.Entries.{CanAppend}
+use Rattle.dir_entries.specs.Inner.{CanAppend}
 use Rattle.dir_answers.specs.Answers.{isDir, ofHead, entryNeeds}
 use Rattle.dir_answers.proofs.Ready.{size-ready}
 

@@ -16,8 +16,8 @@ use Rattle.card_rules.proofs.Views.{kids-of-dir}
 use Rattle.card_rules.proofs.Owners.{held-below}
 use Rattle.card_rules.proofs.Counting.{count-below}
 use Rattle.card_rules.proofs.Tree.{reached-listed}
-use Rattle.check_names.specs.Reading.{Readable}
-use Rattle.file_blocks.specs.Shape.{Sizes}
+use Rattle.check_names.specs.InnerReading.{Readable}
+use Rattle.file_blocks.specs.Inner.{Sizes}
 
 pub sizes-whole : (img : List ℕ) → Whole img → Sizes img (blocks img)
 sizes-whole img w = let z = w .sound .sized in record { few = z .few; many = z .many; long = z .long }

@@ -16,7 +16,8 @@ use Rattle.card_rules.specs.View.{entries}
 use Rattle.file_blocks.proofs.Picks.{pick-both}
 use Rattle.dir_entries.specs.Entries.{whereIs}
 use Rattle.dir_entries.specs.Names.{storable}
-use Rattle.dir_answers.specs.Answers.{actedNo, ifDone, placed, isDir, ofHead, inDir, newName}
+use Rattle.dir_answers.specs.Answers.{actedNo, ifDone, isDir, ofHead, inDir, newName}
+use Rattle.dir_answers.specs.Inner.{placed}
 use Rattle.dir_answers.proofs.Acted.{the-type as acted-type}
 use Rattle.dir_answers.specs.declared.Acted.{Acted}
 use Rattle.dir_answers.specs.declared.Acted.the-variants.{

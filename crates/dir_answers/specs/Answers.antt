@@ -1,13 +1,12 @@
 -- What the calls on directories answer after the numbers have been tested (4).
-use Prim.Native.Nat.{ℕ, _+_, _<_}
-use mathlib.Core.Path.{_≡_}
+use Prim.Native.Nat.{ℕ, _+_}
 use mathlib.Core.Bool.{Bool, true, false}
 use mathlib.Core.List.{List}
 use lib.Dec.{ltb}
 use Rattle.words.specs.Words.{pick}
 use Rattle.card_layout.specs.Sizes.{entrySize}
 use Rattle.card_layout.specs.Super.{unused}
-use Rattle.card_layout.specs.Inode.{kind, decoded}
+use Rattle.card_layout.specs.Inode.{decoded}
 use Rattle.card_layout.specs.declared.inode.FileType.{FileType}
 use Rattle.card_layout.specs.declared.inode.FileType.the-variants.{File, Dir, SymLink}
 use Rattle.card_layout.specs.declared.inode.Head.{Head}
@@ -18,21 +17,7 @@ use Rattle.file_requests.specs.Requests.{needs}
 use Rattle.dir_entries.specs.Entries.{whereIs}
 use Rattle.dir_entries.specs.Names.{storable}
 use Rattle.dir_answers.specs.declared.Acted.{Acted}
-use Rattle.dir_answers.specs.declared.Acted.the-variants.{
-  Done,
-  Inode,
-  NotDir,
-  IsDir,
-  BadName,
-  EntryExist,
-  EntryNotFound,
-  DirNotEmpty,
-  InvalidParam,
-  TooManyLinks,
-  NoDeviceSpace,
-}
-use Rattle.dir_answers.specs.declared.Placed.{Placed}
-use Rattle.dir_answers.specs.declared.Placed.the-variants.{At, Refused}
+use Rattle.dir_answers.specs.declared.Acted.the-variants.{Done, Inode, NotDir, IsDir, BadName, EntryExist, EntryNotFound, DirNotEmpty, InvalidParam, TooManyLinks, NoDeviceSpace}
 
 -- RULES' number of an answer
 abbrev pub actedNo : Acted → ℕ
@@ -66,10 +51,6 @@ ifDone InvalidParam x r = r
 ifDone TooManyLinks x r = r
 ifDone NoDeviceSpace x r = r
 
--- the place that the tests have found, for the act, where their answer refuses nothing
-abbrev pub placed : Acted → ℕ → Placed
-placed j k = ifDone j (At k) (Refused j)
-
 -- "directory call on something else"
 abbrev pub isDir : FileType → Bool
 isDir File = false
@@ -79,14 +60,6 @@ isDir SymLink = false
 abbrev pub ofHead : {A : Type 0} → Decoded → A → (Head → A) → A
 ofHead BadKind r f = r
 ofHead (Good h) r f = f h
-
--- p is a directory, and h its head
-abbrev pub DirHead : List ℕ → ℕ → Head → Type 0
-DirHead img p h = (decoded img p ≡ Good h) × (isDir (h .«type_») ≡ true)
-
--- p is a directory, and has an entry k
-abbrev pub HasEntry : List ℕ → ℕ → ℕ → Type 0
-HasEntry img p k = (kind img p ≡ 2) × (k < entries img p)
 
 -- 6: what is asked of directory p, with head h
 abbrev pub inDir : List ℕ → ℕ → (Head → Acted) → Acted

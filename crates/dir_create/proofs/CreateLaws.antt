@@ -25,7 +25,8 @@ use Rattle.file_requests.specs.Requests.{recordWith}
 use Rattle.dir_entries.specs.Names.{storable}
 use Rattle.dir_entries.proofs.Given.{storable-name}
 use Rattle.dir_answers.specs.Answers.{actedNo, theInode, isDir, newName, roomFor}
-use Rattle.dir_create.specs.Create.{knownKind, fileKind, freshInode, NoneBelow, createTakes, createRoom, createAnswer, madeFile, madeDir, made, createCard}
+use Rattle.dir_create.specs.Create.{knownKind, fileKind, freshInode, createTakes, createRoom, createAnswer, madeFile, madeDir, made, createCard}
+use Rattle.dir_create.specs.Inner.{NoneBelow}
 use Rattle.dir_answers.specs.declared.Acted.{Acted}
 use Rattle.dir_answers.specs.declared.Acted.the-variants.{Done, Inode, NotDir, InvalidParam, TooManyLinks, NoDeviceSpace}
 use Rattle.dir_answers.proofs.Heads.{dirOf, dir-bad, dir-yes}

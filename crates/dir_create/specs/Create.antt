@@ -1,11 +1,9 @@
 -- Create (RULES): "takes the inode block, for a directory its data block, then appends in the parent, and answers the number". Its tests, in order:
 -- 6, 8, 9, 12, 13, 14.
-use mathlib.Core.Path.{_≡_}
-use Prim.Native.Nat.{ℕ, _+_, _≤_, _<_}
+use Prim.Native.Nat.{ℕ, _+_}
 use mathlib.Core.Bool.{Bool, false}
 use mathlib.Core.List.{List}
 use lib.Dec.{eqb, ltb}
-use lib.ListN.{length}
 use Rattle.card_layout.specs.Sizes.{fullLinks}
 use Rattle.words.specs.Words.{pick}
 use Rattle.card_layout.specs.Inode.{decoded, encoded, newInode, withLinks}
@@ -14,12 +12,11 @@ use Rattle.card_layout.specs.declared.inode.FileType.{FileType}
 use Rattle.card_layout.specs.declared.inode.FileType.the-variants.{File, Dir, SymLink}
 use Rattle.card_layout.specs.declared.inode.Head.{Head}
 use Rattle.card_layout.specs.declared.inode.DiskINode.{DiskINode}
-use Rattle.card_map.specs.Free.{lowest, taken}
-use Rattle.file_blocks.specs.Shape.{Sizes}
+use Rattle.card_map.specs.Free.{taken}
 use Rattle.file_blocks.specs.Taking.{nextFree}
 use Rattle.file_requests.specs.Resizing.{resized}
 use Rattle.file_requests.specs.Requests.{recordWith}
-use Rattle.dir_entries.specs.Entries.{CanAppend, entryPut, appended}
+use Rattle.dir_entries.specs.Entries.{entryPut, appended}
 use Rattle.dir_entries.specs.Names.{dot, dots}
 use Rattle.dir_answers.specs.Answers.{theInode, ifDone, ofHead, inDir, newName, entryNeeds, roomFor}
 use Rattle.dir_answers.specs.declared.Acted.{Acted}
@@ -35,11 +32,6 @@ fileKind k = pick (eqb k 1) File SymLink
 -- the number that is answered: the inode's block
 abbrev pub freshInode : ℕ → List ℕ → ℕ
 freshInode nb img = nextFree nb img 0
-
--- a search from there finds the same block: none below is free
-pub record NoneBelow (nb : ℕ) (img : List ℕ) (from : ℕ) : Type 0 where
-  pub within : from ≤ nb
-  pub same : lowest img from nb ≡ lowest img 0 nb
 
 -- the blocks that it takes, in a directory with head h
 abbrev pub createTakes : Head → ℕ → ℕ
@@ -61,10 +53,6 @@ unfoldable pub madeFile : ℕ → ℕ → DiskINode → List ℕ → FileType �
 madeFile nb p d x t img =
     appended nb p d (entryOf (freshInode nb img) x) (encoded (taken img 0 nb) (freshInode nb img) (withLinks (newInode t) 1))
 
--- what the act asks: the inode's block is the first free one from `from` on, and p, with record d, may have an entry more, named x
-abbrev pub MakeReady : ℕ → List ℕ → ℕ → ℕ → DiskINode → List ℕ → Type 0
-MakeReady nb img from p d x = Sizes img nb × NoneBelow nb img from × (p < nb) × CanAppend (d .head) × (length x ≤ 255)
-
 -- a directory of two entries, on a card whose block i has been taken for it: its record first, then its length
 abbrev pub bareDir : DiskINode
 bareDir = withLinks (newInode Dir) 2
@@ -84,7 +72,3 @@ made nb p d x k img = pick (eqb k 2) (madeDir nb p d x img) (madeFile nb p d x (
 unfoldable pub createCard : ℕ → List ℕ → ℕ → List ℕ → ℕ → List ℕ
 createCard nb img p x k =
     ofHead (decoded img p) img (λ h. ifDone (createAnswer nb img p x k) (made nb p (recordWith img p h) x k img) img)
-
--- what create answers, and what it leaves of the card
-abbrev pub Creates : ℕ → List ℕ → List ℕ → ℕ → List ℕ → ℕ → Acted → Type 0
-Creates nb img img′ p x k r = (r ≡ createAnswer nb img p x k) × (img′ ≡ createCard nb img p x k)

@@ -9,26 +9,12 @@ ghost use Rattle.card_layout.specs.Super.{blocks};
 ghost use Rattle.card_layout.specs.Inode.{encoded};
 ghost use Rattle.card_map.specs.Free.{taken};
 ghost use Rattle.card_rules.specs.Whole.{Reached, Whole};
-ghost use Rattle.file_blocks.specs.Shape.{Sizes};
+ghost use Rattle.file_blocks.specs.Inner.{Sizes};
 ghost use Rattle.file_requests.specs.Resizing.{resized};
-ghost use Rattle.dir_entries.specs.Entries.{CanAppend};
-ghost use Rattle.dir_answers.specs.Answers.{DirHead};
-ghost use Rattle.dir_create.specs.Create.{
-  knownKind,
-  fileKind,
-  freshInode,
-  NoneBelow,
-  createTakes,
-  createRoom,
-  createAnswer,
-  MakeReady,
-  madeFile,
-  bareDir,
-  emptyDir,
-  madeDir,
-  made,
-  Creates,
-};
+ghost use Rattle.dir_entries.specs.Inner.{CanAppend};
+ghost use Rattle.dir_answers.specs.Inner.{DirHead};
+ghost use Rattle.dir_create.specs.Create.{knownKind, fileKind, freshInode, createTakes, createRoom, createAnswer, madeFile, bareDir, emptyDir, madeDir, made};
+ghost use Rattle.dir_create.specs.Inner.{NoneBelow, MakeReady, Creates};
 use card_layout::BlockId;
 use card_layout::INodeId;
 use card_layout::MAX_NLINKS;

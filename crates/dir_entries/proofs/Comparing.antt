@@ -19,7 +19,7 @@ use Rattle.card_rules.proofs.Views.{name-at, length-fileBytes, getD-fileBytes}
 use Rattle.check_names.proofs.Entries.{byte-here}
 use Rattle.check_names.proofs.Scanning.{left}
 use Rattle.dir_entries.specs.Entries.{eqs}
-use Rattle.dir_entries.specs.Names.{tailDiffers}
+use Rattle.dir_entries.specs.Inner.{tailDiffers}
 
 -- ---- one byte on
 

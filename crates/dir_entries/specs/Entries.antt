@@ -1,19 +1,15 @@
 -- A directory's entries as the calls see and change them (RULES): "Entry k stands at byte 260k of its directory and may cross into another block".
 -- nb is the card's block count, d the record of directory n as the card has it.
-use Prim.Native.Nat.{ℕ, _+_, _-_, _*_, _/_, _≤_, _<_}
-use mathlib.Core.Path.{_≡_}
+use Prim.Native.Nat.{ℕ, _+_, _-_, _*_, _/_}
 use mathlib.Core.Bool.{Bool, true, false}
 use mathlib.Core.List.{List, [], _∷_}
 use lib.Dec.{eqb}
 use lib.ListN.{replicate}
 use Rattle.words.specs.Words.{pick}
-use Rattle.card_layout.specs.Sizes.{blockSize, entrySize}
-use Rattle.card_layout.specs.Inode.{count}
-use Rattle.card_layout.specs.declared.inode.Head.{Head}
+use Rattle.card_layout.specs.Sizes.{entrySize}
 use Rattle.card_layout.specs.declared.inode.DiskINode.{DiskINode}
 use Rattle.card_map.specs.Free.{firstFrom}
 use Rattle.card_rules.specs.View.{entries, name}
-use Rattle.check_names.specs.Reading.{Readable}
 use Rattle.file_blocks.specs.Bytes.{readInto, filled}
 use Rattle.file_requests.specs.Resizing.{resized}
 
@@ -34,11 +30,6 @@ sameAs img n x k = pick (eqs (name img n k) x) 1 0
 unfoldable pub whereIs : List ℕ → ℕ → List ℕ → ℕ
 whereIs img n x = firstFrom (sameAs img n x) 0 (entries img n)
 
--- what looking it up asks: directory n has `total` entries, and its blocks can be read
-abbrev pub FindAsks : List ℕ → ℕ → ℕ → Type 0
-FindAsks img n total =
-    Readable img n × (total ≡ entries img n) × (entrySize * total ≤ blockSize * count img n) × (total < 16777216)
-
 -- ---- reading and writing entries
 
 -- the 260 bytes of entry k
@@ -48,10 +39,6 @@ entryAt nb img n k = readInto img nb n (entrySize * k) (entrySize * k + entrySiz
 -- the card on which they are e
 unfoldable pub entryPut : ℕ → ℕ → ℕ → List ℕ → List ℕ → List ℕ
 entryPut nb n k e img = filled false e nb n (entrySize * k) (entrySize * k + entrySize) img
-
--- a directory with head h may have one entry more: the record can hold its size
-abbrev pub CanAppend : Head → Type 0
-CanAppend h = h .size + entrySize ≤ 4294967295
 
 -- "appends": the directory is 260 longer, and e its last entry
 unfoldable pub appended : ℕ → ℕ → DiskINode → List ℕ → List ℕ → List ℕ

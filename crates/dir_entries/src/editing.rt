@@ -2,8 +2,9 @@
 ghost use mathlib.Core.Path.{_≡_};
 ghost use Prim.Native.Nat.{_+_, _*_, _≤_, _<_};
 ghost use Rattle.card_layout.specs.Sizes.{entrySize};
-ghost use Rattle.file_blocks.specs.Shape.{Sizes};
-ghost use Rattle.dir_entries.specs.Entries.{CanAppend, entryAt, entryPut, appended, removed};
+ghost use Rattle.file_blocks.specs.Inner.{Sizes};
+ghost use Rattle.dir_entries.specs.Entries.{entryAt, entryPut, appended, removed};
+ghost use Rattle.dir_entries.specs.Inner.{CanAppend};
 use card_layout::DIRENT_SIZE;
 use card_layout::INodeId;
 use card_layout::inode::DiskINode;

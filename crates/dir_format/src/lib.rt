@@ -7,7 +7,7 @@ ghost use Rattle.card_layout.specs.Super.{superPut};
 ghost use Rattle.words.specs.Words.{Bytes};
 ghost use Rattle.words.specs.Runs.{turns};
 ghost use Rattle.card_map.specs.Bits.{setBit};
-ghost use Rattle.file_blocks.specs.Shape.{Sizes};
+ghost use Rattle.file_blocks.specs.Inner.{Sizes};
 ghost use Rattle.dir_format.specs.Format.{formatAnswer, rootBlock, freshSuper, freshMap, rootRecord, dotsPut, formatted, formatCard};
 use card_layout::BLKSIZE;
 use card_layout::BlockId;

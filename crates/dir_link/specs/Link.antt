@@ -1,5 +1,4 @@
 -- Link (RULES): "appends"; links up. Its tests, in order: 6, 8, 9, 7, 13, 14.
-use mathlib.Core.Path.{_≡_}
 use Prim.Native.Nat.{ℕ, _+_}
 use mathlib.Core.List.{List}
 use lib.Dec.{eqb}
@@ -34,7 +33,3 @@ unfoldable pub linkCard : ℕ → List ℕ → ℕ → List ℕ → ℕ → List
 linkCard nb img p x c =
     ofHead (decoded img p) img
     (λ h. ofHead (decoded img c) img (λ g. ifDone (linkAnswer img p x c) (linked nb p (recordWith img p h) x c (recordWith img c g) img) img))
-
--- what link answers, and what it leaves of the card
-abbrev pub Links : ℕ → List ℕ → List ℕ → ℕ → List ℕ → ℕ → Acted → Type 0
-Links nb img img′ p x c r = (r ≡ linkAnswer img p x c) × (img′ ≡ linkCard nb img p x c)

@@ -1,7 +1,7 @@
 // Find and the entry at an index: RULES' tests, in its order. Nothing changes.
 ghost use mathlib.Core.Path.{_≡_};
 ghost use Rattle.card_rules.specs.Whole.{Reached, Whole};
-ghost use Rattle.dir_answers.specs.Answers.{DirHead};
+ghost use Rattle.dir_answers.specs.Inner.{DirHead};
 ghost use Rattle.dir_look.specs.Look.{findAnswer, entryAnswer, entryBytes};
 use card_layout::DIRENT_SIZE;
 use card_layout::INodeId;

@@ -16,13 +16,15 @@ use Rattle.card_layout.specs.declared.inode.Head.{Head}
 use Rattle.card_layout.specs.declared.inode.Decoded.the-variants.{Good, BadKind}
 use Rattle.card_rules.specs.View.{entries, entry}
 use Rattle.card_rules.specs.Whole.{Reached, Whole}
-use Rattle.file_blocks.specs.Shape.{Sizes}
+use Rattle.file_blocks.specs.Inner.{Sizes}
 use Rattle.file_blocks.proofs.Picks.{pick-both, pick-yes, pick-no}
 use Rattle.dir_entries.specs.Entries.{whereIs}
 use Rattle.dir_entries.specs.Names.{isDots, storable}
 use Rattle.dir_entries.proofs.Given.{storable-name}
-use Rattle.dir_answers.specs.Answers.{actedNo, placed, isDir, ofHead, inDir, newName, entryNeeds, namedBy}
-use Rattle.dir_move.specs.Move.{climbs, entryRoom, dirRoom, moveRoom, childAnswer, sourceAnswer, moveAnswer, moved, movedAt, moveCard, MoveReady, MovePassed}
+use Rattle.dir_answers.specs.Answers.{actedNo, isDir, ofHead, inDir, newName, entryNeeds, namedBy}
+use Rattle.dir_answers.specs.Inner.{placed}
+use Rattle.dir_move.specs.Move.{climbs, entryRoom, dirRoom, moveRoom, childAnswer, sourceAnswer, moveAnswer, moved, movedAt, moveCard}
+use Rattle.dir_move.specs.Inner.{MoveReady, MovePassed}
 use Rattle.dir_answers.specs.declared.Acted.{Acted}
 use Rattle.dir_answers.specs.declared.Acted.the-variants.{Done, NotDir, IsDir, EntryNotFound, InvalidParam, TooManyLinks}
 use Rattle.dir_answers.specs.declared.Placed.{Placed}

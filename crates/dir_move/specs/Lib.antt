@@ -1,1 +1,2 @@
 pub mod Move
+pub mod Inner

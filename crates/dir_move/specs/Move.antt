@@ -1,34 +1,25 @@
 -- Move (RULES): "in one directory rewrites the name in place; otherwise it appends to the target, then removes, and for a directory adjusts both
 -- parents' links .. the number in ".." becomes the new parent's, its other bytes staying". Its tests, in order: source 6, 7, target 6, then 8, 9, 10, 12,
 -- 13, 14.
-use mathlib.Core.Path.{_≡_}
-use Prim.Native.Nat.{ℕ, zero, suc, _+_, _-_, _*_, _≤_, _<_}
+use Prim.Native.Nat.{ℕ, zero, suc, _+_, _-_}
 use mathlib.Core.Bool.{Bool, true, false}
 use mathlib.Core.List.{List}
 use lib.Dec.{eqb, ltb}
-use lib.ListN.{length, replicate}
+use lib.ListN.{replicate}
 use Rattle.words.specs.Words.{pick, putWord}
 use Rattle.card_layout.specs.Sizes.{entrySize, fullLinks}
-use Rattle.card_layout.specs.Inode.{kind, links, decoded, withLinks}
+use Rattle.card_layout.specs.Inode.{decoded, withLinks}
 use Rattle.card_layout.specs.Entry.{entryOf}
 use Rattle.card_layout.specs.declared.inode.Head.{Head}
 use Rattle.card_layout.specs.declared.inode.DiskINode.{DiskINode}
 use Rattle.card_rules.specs.View.{entries, entry}
-use Rattle.file_blocks.specs.Shape.{Sizes}
 use Rattle.file_blocks.specs.Bytes.{filled}
 use Rattle.file_requests.specs.Requests.{recordWith}
-use Rattle.dir_entries.specs.Entries.{whereIs, CanAppend, entryPut, appended, removed}
+use Rattle.dir_entries.specs.Entries.{whereIs, entryPut, appended, removed}
 use Rattle.dir_entries.specs.Names.{isDots}
-use Rattle.dir_answers.specs.Answers.{ifDone, placed, isDir, ofHead, DirHead, inDir, newName, entryNeeds, roomFor, namedBy}
-use Rattle.dir_answers.specs.declared.Placed.{Placed}
+use Rattle.dir_answers.specs.Answers.{ifDone, isDir, ofHead, inDir, newName, entryNeeds, roomFor, namedBy}
 use Rattle.dir_answers.specs.declared.Acted.{Acted}
-use Rattle.dir_answers.specs.declared.Acted.the-variants.{
-  Done,
-  IsDir,
-  EntryNotFound,
-  InvalidParam,
-  TooManyLinks,
-}
+use Rattle.dir_answers.specs.declared.Acted.the-variants.{Done, IsDir, EntryNotFound, InvalidParam, TooManyLinks}
 
 -- whether climbing ".." from directory t meets c before the root, in at most so many steps: "a directory moved into itself or below"
 unfoldable pub climbs : List ℕ → ℕ → ℕ → ℕ → Bool
@@ -60,13 +51,6 @@ sourceAnswer nb img p old t h =
 unfoldable pub moveAnswer : ℕ → List ℕ → ℕ → List ℕ → ℕ → List ℕ → Acted
 moveAnswer nb img p old t new =
     inDir img p (λ s. pick (isDots old) IsDir (inDir img t (λ h. newName img t new (sourceAnswer nb img p old t h))))
-
--- with the place of the name `old`, for the act
-abbrev pub sourcePlaced : ℕ → List ℕ → ℕ → List ℕ → ℕ → Head → Placed
-sourcePlaced nb img p old t h = placed (sourceAnswer nb img p old t h) (whereIs img p old)
-
-abbrev pub movePlaced : ℕ → List ℕ → ℕ → List ℕ → ℕ → List ℕ → Placed
-movePlaced nb img p old t new = placed (moveAnswer nb img p old t new) (whereIs img p old)
 
 -- ".." of directory c names t, its other bytes staying
 unfoldable pub upPut : ℕ → ℕ → ℕ → List ℕ → List ℕ
@@ -101,25 +85,3 @@ movedAt nb img p k t new =
 -- the entry that has the name `old`; where a test refuses, the card stays
 unfoldable pub moveCard : ℕ → List ℕ → ℕ → List ℕ → ℕ → List ℕ → List ℕ
 moveCard nb img p old t new = ifDone (moveAnswer nb img p old t new) (movedAt nb img p (whereIs img p old) t new) img
-
--- ---- what the code asks
-
--- p and t are directories, with the heads s and h
-abbrev pub FromTo : List ℕ → ℕ → Head → ℕ → Head → Type 0
-FromTo img p s t h = DirHead img p s × DirHead img t h
-
--- entry k of p, whose head is s, may go, and t, whose head is h, may have one more, named `new`
-abbrev pub MoveReady : ℕ → List ℕ → ℕ → Head → ℕ → ℕ → Head → List ℕ → Type 0
-MoveReady nb img p s k t h new =
-    Sizes img nb × (p < nb) × (t < nb) × (entrySize ≤ s .size) × (entrySize * k + entrySize ≤ 4294967295) × CanAppend h × (length new ≤ 255)
-
--- what has passed the tests: p has entry k, a directory finds room in the links of t, and `new` fits an entry
-abbrev pub MovePassed : List ℕ → ℕ → ℕ → ℕ → List ℕ → Type 0
-MovePassed img p k t new =
-    (kind img p ≡ 2) × (k < entries img p)
-    × ((p ≡ t → ⊥) → kind img (entry img p k) ≡ 2 → links img t < fullLinks)
-    × (length new ≤ 255)
-
--- what move answers, and what it leaves of the card
-abbrev pub Moves : ℕ → List ℕ → List ℕ → ℕ → List ℕ → ℕ → List ℕ → Acted → Type 0
-Moves nb img img′ p old t new r = (r ≡ moveAnswer nb img p old t new) × (img′ ≡ moveCard nb img p old t new)

@@ -8,28 +8,13 @@ ghost use Rattle.card_layout.specs.Super.{blocks};
 ghost use Rattle.card_layout.specs.Inode.{kind};
 ghost use Rattle.card_rules.specs.View.{entry};
 ghost use Rattle.card_rules.specs.Whole.{Reached, Whole};
-ghost use Rattle.file_blocks.specs.Shape.{Sizes};
-ghost use Rattle.dir_entries.specs.Entries.{CanAppend};
+ghost use Rattle.file_blocks.specs.Inner.{Sizes};
+ghost use Rattle.dir_entries.specs.Inner.{CanAppend};
 ghost use Rattle.dir_entries.specs.Names.{isDots};
-ghost use Rattle.dir_answers.specs.Answers.{isDir, DirHead, HasEntry};
-ghost use Rattle.dir_move.specs.Move.{
-  climbs,
-  dirRoom,
-  moveRoom,
-  childAnswer,
-  sourcePlaced,
-  movePlaced,
-  upPut,
-  movedFile,
-  movedDir,
-  movedTo,
-  moved,
-  movedAt,
-  FromTo,
-  MoveReady,
-  MovePassed,
-  Moves,
-};
+ghost use Rattle.dir_answers.specs.Answers.{isDir};
+ghost use Rattle.dir_answers.specs.Inner.{DirHead, HasEntry};
+ghost use Rattle.dir_move.specs.Move.{climbs, dirRoom, moveRoom, childAnswer, upPut, movedFile, movedDir, movedTo, moved, movedAt};
+ghost use Rattle.dir_move.specs.Inner.{sourcePlaced, movePlaced, FromTo, MoveReady, MovePassed, Moves};
 use card_layout::DIRENT_SIZE;
 use card_layout::INodeId;
 use card_layout::MAX_NLINKS;

@@ -13,7 +13,7 @@ use Rattle.card_layout.specs.declared.inode.Head.{Head}
 use Rattle.card_layout.specs.declared.inode.Decoded.the-variants.{Good, BadKind}
 use Rattle.card_rules.specs.View.{entries, entry}
 use Rattle.card_rules.specs.Whole.{Reached, Whole}
-use Rattle.file_blocks.specs.Shape.{Sizes}
+use Rattle.file_blocks.specs.Inner.{Sizes}
 use Rattle.file_blocks.proofs.Picks.{pick-both, pick-yes, pick-no}
 use Rattle.file_requests.specs.Requests.{recordWith}
 use Rattle.dir_entries.specs.Entries.{whereIs}

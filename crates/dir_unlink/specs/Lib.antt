@@ -1,1 +1,2 @@
 pub mod Unlink
+pub mod Inner

@@ -1,6 +1,5 @@
 -- Unlink (RULES): "puts the last entry in the hole, shortens the directory by 260, and at no links frees the inode and all it owns; the dead record
 -- keeps its fields with links 0". Its tests, in order: 6, 7, 10, 11.
-use mathlib.Core.Path.{_≡_}
 use Prim.Native.Nat.{ℕ, _-_, _/_}
 use mathlib.Core.Bool.{Bool, false}
 use mathlib.Core.List.{List}
@@ -68,7 +67,3 @@ unlinkedAt nb img p k =
 -- the entry that has the name; where a test refuses, the card stays
 unfoldable pub unlinkCard : ℕ → List ℕ → ℕ → List ℕ → List ℕ
 unlinkCard nb img p x = ifDone (unlinkAnswer img p x) (unlinkedAt nb img p (whereIs img p x)) img
-
--- what unlink answers, and what it leaves of the card
-abbrev pub Unlinks : ℕ → List ℕ → List ℕ → ℕ → List ℕ → Acted → Type 0
-Unlinks nb img img′ p x r = (r ≡ unlinkAnswer img p x) × (img′ ≡ unlinkCard nb img p x)

@@ -16,7 +16,8 @@ use Rattle.words.proofs.Runs.{turns-keep}
 use Rattle.card_layout.specs.Slots.{seconds}
 use Rattle.card_map.specs.declared.FreeBlock.{FreeBlock}
 use Rattle.card_map.specs.declared.FreeBlock.the-variants.{At, Nothing}
-use Rattle.card_map.specs.Free.{lowest, foundBelow, taken}
+use Rattle.card_map.specs.Free.{lowest, taken}
+use Rattle.card_map.specs.Inner.{foundBelow}
 use Rattle.card_map.proofs.Laws.{length-taken}
 use Rattle.file_blocks.specs.Ranges.{within, partFrom, partTo, partsFrom, partsTo}
 use Rattle.file_blocks.specs.Taking.{Cursor, Growing, nextFree, nextOf, tookNext, intoWord, intoDirect, intoIndirect, intoDouble, moved, growRun, growIndirect, growDouble, growLevel, growDirect, growSingle, growPart, growTwofold, grown}

@@ -3,7 +3,7 @@
 use Prim.Native.Nat.{ℕ, _+_, _-_, _*_, _≤_, _<_, min, max}
 use mathlib.Core.Path.{_≡_}
 use mathlib.Core.Logic.{_≢_}
-use Rattle.words.specs.Words.{Apart}
+use Rattle.words.specs.Inner.{Apart}
 use native.Mathlib.Omega.{arith}
 use Rattle.file_blocks.specs.Bytes.{pieceLo, pieceHi}
 use Rattle.file_blocks.specs.Ranges.{within}

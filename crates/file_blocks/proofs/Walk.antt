@@ -15,7 +15,8 @@ use Rattle.card_layout.specs.Inode.{count, indirect, double}
 use Rattle.card_layout.specs.Slots.{seconds}
 use Rattle.card_rules.specs.View.{second, dataAt}
 use Rattle.card_rules.proofs.Views.{data-direct, data-indirect, data-double, seconds-some}
-use Rattle.file_blocks.specs.Bytes.{firstOf, afterOf, levelFrom, levelTo, levelsFrom, levelsTo}
+use Rattle.file_blocks.specs.Bytes.{firstOf, afterOf}
+use Rattle.file_blocks.specs.Inner.{levelFrom, levelTo, levelsFrom, levelsTo}
 use Rattle.file_blocks.specs.Ranges.{within}
 use Rattle.file_blocks.proofs.Ranges.{shift}
 

@@ -8,7 +8,7 @@ use Rattle.words.specs.Words.{pick, word}
 use Rattle.words.specs.Runs.{copied, zeroed, turns}
 use Rattle.card_layout.specs.Sizes.{blockSize}
 use Rattle.card_layout.specs.Inode.{indirect, double}
-use Rattle.file_blocks.specs.Ranges.{partFrom, partTo, partsFrom, partsTo, inRecord, inIndirect, inSecond, belowDouble}
+use Rattle.file_blocks.specs.Ranges.{inRecord, inIndirect, inSecond, belowDouble}
 
 -- ---- where a range of bytes, off to end, falls
 
@@ -50,19 +50,6 @@ runRead img nb at i e off end buf = turns (λ j x. pieceRead img nb (word img (a
 
 unfoldable pub runFill : Bool → List ℕ → ℕ → ℕ → ℕ → ℕ → ℕ → ℕ → List ℕ → List ℕ
 runFill z src nb at i e off end img = turns (λ j x. pieceFill z src nb (word x (at + 4 * (j - i))) off end j x) i (e - i) img
-
--- the blocks that second-level block q lists, and the second-level blocks that it touches: from, up to
-abbrev pub levelFrom : ℕ → ℕ → ℕ
-levelFrom off q = partFrom (firstOf off) q
-
-abbrev pub levelTo : ℕ → ℕ → ℕ
-levelTo end q = partTo (afterOf end) q
-
-abbrev pub levelsFrom : ℕ → ℕ
-levelsFrom off = partsFrom (firstOf off)
-
-abbrev pub levelsTo : ℕ → ℕ
-levelsTo end = partsTo (afterOf end)
 
 -- ---- the three ranges
 

@@ -1,4 +1,4 @@
-pub mod Shape
+pub mod Inner
 pub mod Ranges
 pub mod Bytes
 pub mod Taking

@@ -1,5 +1,5 @@
 -- Growth and shrinking (RULES, "Taking blocks"): "Growth takes the indirect block, the double one, its second level in rising order, then data in
--- rising order". Each taken block is the lowest free one; the search goes on where the last one ended (freemap: lowest-on, lowest-next).
+-- rising order". Each taken block is the lowest free one; the search goes on where the last one ended (card_map: lowest-on, lowest-next).
 use Prim.Native.Nat.{ℕ, _+_, _-_, _*_, min}
 use mathlib.Core.List.{List}
 use lib.Dec.{ltb}

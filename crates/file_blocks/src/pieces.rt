@@ -1,7 +1,8 @@
 // Where a range of a file's bytes, off to end, falls.
 ghost use mathlib.Core.Path.{_≡_};
 ghost use Prim.Native.Nat.{_+_, _-_, _*_, _≤_, _<_};
-ghost use Rattle.file_blocks.specs.Bytes.{firstOf, afterOf, pieceLo, pieceHi, levelFrom, levelTo, levelsFrom, levelsTo};
+ghost use Rattle.file_blocks.specs.Bytes.{firstOf, afterOf, pieceLo, pieceHi};
+ghost use Rattle.file_blocks.specs.Inner.{levelFrom, levelTo, levelsFrom, levelsTo};
 ghost use Rattle.file_blocks.specs.Ranges.{within, partsFrom, partsTo};
 use card_layout::BLKSIZE;
 use words::order;

@@ -9,7 +9,8 @@ use native.Mathlib.Omega.{arith}
 use native.Mathlib.Decide.{decLt}
 use borrow.Author.Tests.{lt-ltb}
 use lib.ListN.{length}
-use Rattle.words.specs.Words.{byte, word, Apart}
+use Rattle.words.specs.Words.{byte, word}
+use Rattle.words.specs.Inner.{Apart}
 use Rattle.words.proofs.Numbers.{num-frame}
 use Rattle.words.proofs.Runs.{byte-copied-in, byte-copied-off, byte-zeroed-in, byte-zeroed-off}
 use Rattle.card_layout.specs.Inode.{count, indirect, double}

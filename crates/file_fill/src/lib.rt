@@ -3,7 +3,7 @@ ghost use mathlib.Core.Path.{_≡_};
 ghost use Prim.Native.Nat.{_+_, _-_, _*_, _≤_, _<_};
 ghost use mathlib.Core.Bool.{false};
 ghost use lib.ListN.{length};
-ghost use Rattle.file_blocks.specs.Shape.{RangeAsks, PieceAsks, RunAsks, PartAsks};
+ghost use Rattle.file_blocks.specs.Inner.{RangeAsks, PieceAsks, RunAsks, PartAsks};
 ghost use Rattle.file_blocks.specs.Bytes.{put, pieceFill, runFill, directFill, indirectFill, levelFill, doubleFill, filled};
 use card_layout::BLKSIZE;
 use card_layout::BlockId;

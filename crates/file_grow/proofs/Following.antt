@@ -14,7 +14,7 @@ use Rattle.card_map.specs.Free.{taken}
 use Rattle.file_grow.specs.declared.Took.{Took}
 use Rattle.file_blocks.specs.Ranges.{within, partFrom, partTo, partsFrom, partsTo}
 use Rattle.file_blocks.specs.Taking.{Cursor, Growing, nextFree, intoWord, intoDirect, intoIndirect, intoDouble, moved, growRun, growIndirect, growDouble, growLevel, growDirect, growSingle, growPart, growTwofold, grown}
-use Rattle.file_grow.specs.Steps.{cursorAt, growingAt, Moved, Grew}
+use Rattle.file_grow.specs.Inner.{cursorAt, growingAt, Moved, Grew}
 use Rattle.file_blocks.proofs.Picks.{both}
 use Rattle.file_blocks.proofs.Growth.{
   twofoldTurn,

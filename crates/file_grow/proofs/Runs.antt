@@ -8,7 +8,8 @@ use native.Mathlib.Omega.{arith}
 use native.Mathlib.Decide.{ℕ-discrete}
 use lib.ListN.{length, length-set}
 use lib.Seq.{getD-set-same, getD-set-other}
-use Rattle.words.specs.Words.{byte, word, putWord, Apart}
+use Rattle.words.specs.Words.{byte, word, putWord}
+use Rattle.words.specs.Inner.{Apart}
 use Rattle.words.specs.Runs.{turns}
 use Rattle.words.proofs.Numbers.{length-put, byte-out, num-out, num-same, num-frame}
 use Rattle.card_layout.specs.Inode.{blockId, numberAt}
@@ -19,7 +20,7 @@ use Rattle.card_map.specs.Free.{taken}
 use Rattle.card_map.proofs.Map.{bit-is}
 use Rattle.card_map.proofs.Laws.{length-taken}
 use Rattle.file_blocks.specs.Taking.{Cursor, Growing, nextOf, tookNext, intoWord, intoDirect, growRun}
-use Rattle.file_blocks.specs.Shape.{Sizes}
+use Rattle.file_blocks.specs.Inner.{Sizes}
 use Rattle.file_blocks.proofs.Growth.{growRun-none, growRun-more}
 use Rattle.file_grow.proofs.Taken.{nthFree, nth-below, TookLowest, took-kept, next-is, took-next, byte-tookNext}
 

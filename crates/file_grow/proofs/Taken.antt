@@ -7,7 +7,8 @@ use native.Mathlib.Numerals.{add-one}
 use native.Mathlib.Omega.{arith}
 use native.Mathlib.Decide.{decLt, ℕ-discrete}
 use lib.ListN.{length}
-use Rattle.words.specs.Words.{byte, Apart}
+use Rattle.words.specs.Words.{byte}
+use Rattle.words.specs.Inner.{Apart}
 use Rattle.words.specs.Runs.{turns}
 use Rattle.words.specs.Sums.{sumTo}
 use Rattle.words.proofs.Sums.{sumTo-suc, sumTo-zero, sumTo-mono, sumTo-next, sumTo-ones, sumTo-none, sumTo-more}
@@ -17,7 +18,7 @@ use Rattle.card_map.specs.Bits.{mapByte, mapBit, freeBits}
 use Rattle.card_map.specs.Free.{lowest, takenAt, taken}
 use Rattle.card_map.proofs.Map.{bit-below}
 use Rattle.file_blocks.specs.Taking.{Cursor, nextOf, tookNext}
-use Rattle.file_blocks.specs.Shape.{Sizes}
+use Rattle.file_blocks.specs.Inner.{Sizes}
 use Rattle.file_blocks.proofs.Growth.{nextFree-some}
 use Rattle.card_map.proofs.Laws as F
 

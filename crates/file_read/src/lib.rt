@@ -2,7 +2,7 @@
 ghost use mathlib.Core.Path.{_≡_};
 ghost use Prim.Native.Nat.{_+_, _-_, _*_, _≤_, _<_};
 ghost use lib.ListN.{length};
-ghost use Rattle.file_blocks.specs.Shape.{RangeAsks, PieceAsks, RunAsks, PartAsks};
+ghost use Rattle.file_blocks.specs.Inner.{RangeAsks, PieceAsks, RunAsks, PartAsks};
 ghost use Rattle.file_blocks.specs.Bytes.{pieceRead, runRead, directRead, indirectRead, levelRead, doubleRead, readInto};
 use card_layout::BLKSIZE;
 use card_layout::BlockId;

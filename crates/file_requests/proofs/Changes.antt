@@ -8,7 +8,7 @@ use Rattle.card_layout.specs.Inode.{withSize, encoded}
 use Rattle.card_layout.specs.declared.inode.DiskINode.{DiskINode}
 use Rattle.file_grow.specs.declared.Took.{Took}
 use Rattle.file_blocks.specs.Taking.{grown, shrunk, lessIndirect, lessDouble}
-use Rattle.file_grow.specs.Steps.{growingAt, Grew}
+use Rattle.file_grow.specs.Inner.{growingAt, Grew}
 use Rattle.file_blocks.proofs.Picks.{pick-yes, pick-no}
 use Rattle.file_requests.specs.Resizing.{ofLength, lengthened, cleaned, longer, mostBlocks, fileBlocks, shorter, resized}
 use Rattle.file_requests.specs.Requests.{reaching}

@@ -1,2 +1,3 @@
 pub mod Resizing
 pub mod Requests
+pub mod Inner

@@ -1,7 +1,6 @@
 -- Reading, writing and resizing inode n of a card of nb blocks (RULES, "What calls do"): what is answered, and what is left of the card and the
 -- buffer. The tests are those after the numbers: "read: 5. write, resize: 5, 12, 14."
 use Prim.Native.Nat.{ℕ, _+_, _-_, min}
-use mathlib.Core.Path.{_≡_}
 use mathlib.Core.Bool.{false}
 use mathlib.Core.List.{List}
 use lib.Dec.{ltb}
@@ -112,14 +111,3 @@ readAnswer img n off k = byFile (decoded img n) NotFile (λ h. Count (min (h .si
 unfoldable pub readBuffer : ℕ → List ℕ → ℕ → ℕ → List ℕ → List ℕ
 readBuffer nb img n off buf =
     byFile (decoded img n) buf (λ h. readInto img nb n (min (h .size) off) (min (h .size) (off + length buf)) buf)
-
--- ---- what each call meets: r is its answer, and the card or the buffer afterwards has a stroke
-
-abbrev pub Resizes : ℕ → List ℕ → List ℕ → ℕ → ℕ → Filed → Type 0
-Resizes nb img img′ n len r = (r ≡ resizeAnswer img n len) × (img′ ≡ resizeCard nb img n len)
-
-abbrev pub Writes : ℕ → List ℕ → List ℕ → ℕ → ℕ → List ℕ → Filed → Type 0
-Writes nb img img′ n off src r = (r ≡ writeAnswer img n off src) × (img′ ≡ writeCard nb img n off src)
-
-abbrev pub Reads : ℕ → List ℕ → ℕ → ℕ → List ℕ → List ℕ → Filed → Type 0
-Reads nb img n off buf buf′ r = (r ≡ readAnswer img n off (length buf)) × (buf′ ≡ readBuffer nb img n off buf)

@@ -3,7 +3,7 @@ ghost use mathlib.Core.Path.{_≡_};
 ghost use Prim.Native.Nat.{_*_, _≤_, _<_, min};
 ghost use lib.ListN.{length};
 ghost use Rattle.card_layout.specs.Sizes.{blocksFor, blockSize};
-ghost use Rattle.file_blocks.specs.Shape.{Sizes};
+ghost use Rattle.file_blocks.specs.Inner.{Sizes};
 ghost use Rattle.file_requests.specs.Resizing.{ofLength, lengthened, cleaned, longer, fileBlocks, shorter, resized};
 use card_layout::BlockId;
 use card_layout::INodeId;

@@ -4,7 +4,7 @@ ghost use Prim.Native.Nat.{_+_, _-_, _*_, _≤_, _<_};
 ghost use lib.ListN.{length};
 ghost use Rattle.file_blocks.specs.Taking.{freedIn, freeRun, freeDirect, freeSingle, freePart, freeTwofold};
 ghost use Rattle.file_blocks.specs.Taking.{freeIndirect, freeLevel, freeDouble, shrunk, lessIndirect, lessDouble};
-ghost use Rattle.file_blocks.specs.Shape.{Sizes};
+ghost use Rattle.file_blocks.specs.Inner.{Sizes};
 use card_layout::BLKSIZE;
 use card_layout::BlockId;
 use card_layout::INodeId;

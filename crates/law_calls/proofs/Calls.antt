@@ -1,5 +1,4 @@
--- Isolation and return to start over the public calls, whatever their scratch: each call does what its definition says on an open card, and nothing on one
--- that is not. Assumes nothing.
+-- One public call on a file, whatever its scratch: it does what its definition says on an open card, and nothing on one that is not. Assumes nothing.
 use mathlib.Core.Path.{_≡_, refl, sym, ap, _∙_}
 use mathlib.Core.Logic.{_≢_}
 use mathlib.Core.List.{List}
@@ -15,7 +14,8 @@ use Rattle.card_layout.specs.Inode.{size, kind, count}
 use Rattle.card_layout.specs.Slots.{owned}
 use Rattle.card_rules.specs.View.{fileByte}
 use Rattle.card_rules.specs.Whole.{Reached, Sound, Tree, Whole}
-use Rattle.card_rules.proofs.Frames.{SameFile, file-refl}
+use Rattle.card_rules.specs.Same.{SameFile}
+use Rattle.card_rules.proofs.Frames.{file-refl}
 use Rattle.check_walk.specs.declared.Opened.{Opened}
 use Rattle.check_walk.specs.declared.Opened.the-variants.{Open, ScratchShort, WrongFs, Damaged, NoInode}
 use Rattle.check_walk.specs.Opening.{Opening, whole, no-inode, damaged, scratch-short, wrong-fs, unsized}
@@ -26,12 +26,14 @@ use Rattle.call_said.specs.Said.{saidNo, ifOpen, ofOpened, ofFiled}
 use Rattle.call_files.specs.FileCalls.{Resized}
 use Rattle.call_said.specs.declared.Said.{Said}
 use Rattle.call_said.proofs.Opened.{ready}
-use Rattle.law_files.specs.Days.{Request, reading, writing, resizing, named, answered, after, OfBytes, written, Returned}
-use Rattle.law_calls.specs.Calls.{Called, read, write, resize, Call, put, lastPut, Calls, none, next}
+use Rattle.law_files.specs.Requests.{Request, reading, writing, resizing, named, OfBytes}
+use Rattle.law_files.specs.Inner.{answered, after, written}
+use Rattle.law_calls.specs.Calls.{Called, read, write, resize}
+use Rattle.law_calls.specs.Made.{file}
+use Rattle.law_calls.specs.Runs.{put}
 use Rattle.law_files.proofs.Steps.{Step, step-none}
 use Rattle.law_files.proofs.Writing.{step}
 use Rattle.law_files.proofs.Files.{refused-exactly}
-use Rattle.law_files.proofs.Return.{Since, since-start, since-step, returned}
 
 -- ---- what a call comes to
 
@@ -57,7 +59,7 @@ module _ {l img img′ s s′ : List ℕ} (t : Tree img l) (n : ℕ) (q : Reques
   outcome Damaged x r e i = stays i (rw e (λ z. omega arith))
   outcome NoInode x r e i = stays i (rw e (λ z. omega arith))
 
-same-either : (o : Opened) (x : List ℕ) → ifOpen o x x ≡ x
+pub same-either : (o : Opened) (x : List ℕ) → ifOpen o x x ≡ x
 same-either (Open c) x = refl
 same-either ScratchShort x = refl
 same-either WrongFs x = refl
@@ -75,26 +77,26 @@ called {l} {img} {img′} t (resize s s′ n len r c) =
     outcome t n (resizing n len) (resizeAnswer img n len) (resizeCard (blocks img) img n len)
     (λ m. rw (ne-eqb (cnt n l) 0 m)) (λ m. rw (ne-eqb (cnt n l) 0 m)) (c .opened) (c .opening) r (c .said) (c .image)
 
--- ---- one call after another
+-- ---- the step that it takes
 
--- the step that a call takes, by a request that puts the same bytes
-record CallStep (l img img′ : List ℕ) (q : Request) (r : Said) : Type 0 where
-  request : Request
-  taken : Step l img img′ request
-  puts : (n o v : ℕ) → written l img request n o v ≡ put q r n o v
+-- by a request that puts the same bytes
+pub record CallStep (l img img′ : List ℕ) (q : Request) (r : Said) : Type 0 where
+  pub request : Request
+  pub taken : Step l img img′ request
+  pub puts : (n o v : ℕ) → written l img request n o v ≡ put (file q) r n o v
 
-refused-puts : (q : Request) (r : Said) → saidNo r ≢ 0 → (n o v : ℕ) → v ≡ put q r n o v
+refused-puts : (q : Request) (r : Said) → saidNo r ≢ 0 → (n o v : ℕ) → v ≡ put (file q) r n o v
 refused-puts (reading m off k) r d n o v = refl
 refused-puts (writing m off src) r d n o v = rw (ne-eqb (saidNo r) 0 d)
 refused-puts (resizing m len) r d n o v = refl
 
-done-puts : (l img : List ℕ) (q : Request) (r : Said) → saidNo r ≡ answered l img q → (n o v : ℕ) → written l img q n o v ≡ put q r n o v
+done-puts : (l img : List ℕ) (q : Request) (r : Said) → saidNo r ≡ answered l img q → (n o v : ℕ) → written l img q n o v ≡ put (file q) r n o v
 done-puts l img (reading m off k) r e n o v = refl
 done-puts l img (writing m off src) r e n o v = rw (← e)
 done-puts l img (resizing m len) r e n o v = refl
 
 module _ {l img img′ : List ℕ} (s : Sound img l) (t : Tree img l) (b : Bytes img) {q : Request} {r : Said} (c : OfBytes q) where
-  call-step : Called img img′ q r → CallStep l img img′ q r
+  pub call-step : Called img img′ q r → CallStep l img img′ q r
   call-step x = go (called t x)
     where
       go : Outcome l img img′ q r → CallStep l img img′ q r
@@ -115,32 +117,6 @@ module _ {l img img′ : List ℕ} (s : Sound img l) (t : Tree img l) (b : Bytes
 
   pub call-tree : Called img img′ q r → Tree img′ l
   call-tree x = call-step x .taken .tree
-
-module _ {l start : List ℕ} (s : Sound start l) where
-  since-calls : {img out : List ℕ} {cs : List Call} → Since l start img → Calls l start img out cs → Since l start out
-  since-calls z none = z
-  since-calls z (next b c h d) = since-calls (since-step s z (call-step (z .sound) (z .tree) (z .bytes) b c .taken) h) d
-
-  bytes-calls : {img out : List ℕ} {cs : List Call} → Since l start img → Calls l start img out cs → (n o : ℕ) → 0 < cnt n l → o < size start n
-      → fileByte out n o ≡ lastPut cs n o (fileByte img n o)
-  unfolding lastPut
-  bytes-calls z none n o c q = refl
-  bytes-calls {img} z (next {q = w} {r = r} {cs = cs} b x h d) n o c q =
-      let y = call-step (z .sound) (z .tree) (z .bytes) b x in
-      bytes-calls (since-step s z (y .taken) h) d n o c q
-      ∙ ap (lastPut cs n o)
-      (y .taken .byte-is n o c (omega (arith, z .sizes n c)) (omega (arith, h n c)) ∙ y .puts n o (fileByte img n o))
-
--- ---- the statements
-
-module _ {start : List ℕ} (w : Whole start) (bytes : Bytes start) {out : List ℕ} {cs : List Call} (day : Calls (w .inodes) start start out cs) where
-  -- demand 3 over public calls
-  pub calls-return : ((n : ℕ) → 0 < cnt n (w .inodes) → size out n ≡ size start n) → Returned (w .inodes) start out
-  calls-return ends = returned (w .sound) bytes (since-calls (w .sound) (since-start (w .sound) (w .tree) bytes) day) ends
-
-  -- a first part of a day is a day: so this holds all along
-  pub calls-bytes : (n o : ℕ) → Reached start n → o < size start n → fileByte out n o ≡ lastPut cs n o (fileByte start n o)
-  calls-bytes n o h q = bytes-calls (w .sound) (since-start (w .sound) (w .tree) bytes) day n o (omega (arith, w .tree .all n h)) q
 
 -- with scratch enough, "a length change is refused exactly if too long or short of free blocks by RULES' count"
 module _ {img : List ℕ} (w : Whole img) (n : ℕ) (h : Reached img n) (d : kind img n ≢ 2) {img′ s s′ : List ℕ} (len : ℕ) {r : Said}

@@ -9,6 +9,7 @@ use lib.ListN.{length}
 use Rattle.words.specs.Words.{Bytes}
 use Rattle.card_layout.specs.Super.{blocks}
 use Rattle.card_layout.specs.Sizes.{blocksFor}
+use Rattle.card_layout.specs.declared.inode.FileType.{FileType}
 use Rattle.card_map.specs.Free.{lowest}
 use Rattle.card_rules.specs.Whole.{Reached, Whole}
 use Rattle.card_rules.proofs.Tree.{reached-listed}
@@ -28,7 +29,7 @@ use Rattle.call_said.specs.Said.{saidNo, saidValue, ifOpen, ofOpened, ofActed}
 use Rattle.call_dirs.specs.DirCalls.{Created, Linked, Unlinked, Moved, Formatted}
 use Rattle.call_said.specs.declared.Said.{Said}
 use Rattle.call_said.proofs.Opened.{ready}
-use Rattle.law_calls.specs.Frame.{Frame}
+use Rattle.law_calls.specs.Inner.{Frame}
 use Rattle.law_dirs.proofs.FreshCard.{format-fits, format-card, format-whole, fresh-bytes}
 use Rattle.law_dirs.proofs.CreateTests.{CanCreate, create-tests, create-can}
 use Rattle.law_dirs.proofs.CreateCard as C
@@ -36,10 +37,10 @@ use Rattle.law_dirs.proofs.CreateCard.{CreateDone}
 use Rattle.law_dirs.proofs.LinkTests.{CanLink, link-tests, link-can}
 use Rattle.law_dirs.proofs.LinkCard as L
 use Rattle.law_dirs.proofs.LinkCard.{LinkDone}
-use Rattle.law_dirs.proofs.UnlinkTests.{unlink-tests, unlink-can, target}
+use Rattle.law_dirs.proofs.UnlinkTests.{unlink-tests, unlink-can, Target, target}
 use Rattle.law_dirs.proofs.UnlinkCard.{UnlinkDone, unlink-done}
 use Rattle.law_dirs.proofs.MoveTests.{move-tests, move-can}
-use Rattle.law_dirs.proofs.MoveJudged.{judged}
+use Rattle.law_dirs.proofs.MoveJudged.{Judged, judged}
 use Rattle.law_dirs.proofs.MoveCard.{MoveDone, move-done}
 use Rattle.law_calls.proofs.Frame.{create-frame, link-frame, unlink-frame, move-frame}
 use Rattle.law_calls.proofs.Refusals.{said-acted, format-refused}
@@ -47,12 +48,12 @@ use Rattle.law_calls.proofs.Refusals.{said-acted, format-refused}
 -- ---- a call that answers 0 has found the card open
 
 -- f is what the call says of an open card, and `out` what it leaves of it
-record Acting (img img′ out : List ℕ) (a b : ℕ) (f : Acted) (r : Said) : Type 0 where
-  first : Reached img a
-  second : Reached img b
-  done : actedNo f ≡ 0
-  said-is : r ≡ ofActed f
-  image-is : img′ ≡ out
+pub record Acting (img img′ out : List ℕ) (a b : ℕ) (f : Acted) (r : Said) : Type 0 where
+  pub first : Reached img a
+  pub second : Reached img b
+  pub done : actedNo f ≡ 0
+  pub said-is : r ≡ ofActed f
+  pub image-is : img′ ≡ out
 
 acting : {img img′ s s′ : List ℕ} {a b : ℕ} (f : Acted) (out : List ℕ) {r : Said} (o : Opened) → Opening img s s′ a b o
     → r ≡ ifOpen o (ofActed f) (ofOpened o) → img′ ≡ ifOpen o out img → saidNo r ≡ 0 → Acting img img′ out a b f r
@@ -77,7 +78,7 @@ module _ {img img′ s s′ : List ℕ} (w : Whole img) (bytes : Bytes img) {p :
   abbrev create-asked : Acted
   create-asked = createAnswer (blocks img) img p x k
 
-  create-acts : Acting img img′ (createCard (blocks img) img p x k) p p create-asked r
+  pub create-acts : Acting img img′ (createCard (blocks img) img p x k) p p create-asked r
   create-acts = acting create-asked (createCard (blocks img) img p x k) (c .opened) (c .opening) (c .said) (c .image) z
 
   create-fine : CanCreate img p x k × (create-asked ≡ theInode (lowest img 0 (blocks img)))
@@ -95,12 +96,16 @@ module _ {img img′ s s′ : List ℕ} (w : Whole img) (bytes : Bytes img) {p :
 
 module _ {img img′ s s′ : List ℕ} (w : Whole img) (bytes : Bytes img) {p : ℕ} {x : List ℕ} {n : ℕ} {r : Said} (src : Bytes x)
     (c : Linked img img′ s s′ p x n r) (z : saidNo r ≡ 0) where
-  link-acts : Acting img img′ (linkCard (blocks img) img p x n) p n (linkAnswer img p x n) r
+  pub link-acts : Acting img img′ (linkCard (blocks img) img p x n) p n (linkAnswer img p x n) r
   link-acts = acting (linkAnswer img p x n) (linkCard (blocks img) img p x n) (c .opened) (c .opening) (c .said) (c .image) z
 
   link-fine : CanLink img p x n × (linkAnswer img p x n ≡ Done)
   link-fine =
       link-can (link-tests (w .sound) p (reached-listed img w p (link-acts .first)) x n (reached-listed img w n (link-acts .second))) (link-acts .done)
+
+  -- what is linked is no directory
+  pub linked-can : CanLink img p x n
+  linked-can = link-fine .0
 
   pub linked-done : LinkDone (w .inodes) img img′ p x n
   linked-done = rw (link-acts .image-is) (L.link w bytes p (link-acts .first) x src n (link-acts .second) (link-fine .1))
@@ -112,7 +117,7 @@ module _ {img img′ s s′ : List ℕ} (w : Whole img) (bytes : Bytes img) {p :
 
 module _ {img img′ s s′ : List ℕ} (w : Whole img) (bytes : Bytes img) {p : ℕ} {x : List ℕ} {r : Said} (c : Unlinked img img′ s s′ p x r)
     (z : saidNo r ≡ 0) where
-  unlink-acts : Acting img img′ (unlinkCard (blocks img) img p x) p p (unlinkAnswer img p x) r
+  pub unlink-acts : Acting img img′ (unlinkCard (blocks img) img p x) p p (unlinkAnswer img p x) r
   unlink-acts = acting (unlinkAnswer img p x) (unlinkCard (blocks img) img p x) (c .opened) (c .opening) (c .said) (c .image) z
 
   pub unlinked-done : UnlinkDone (w .inodes) img img′ p x
@@ -120,10 +125,14 @@ module _ {img img′ s s′ : List ℕ} (w : Whole img) (bytes : Bytes img) {p :
       rw (unlink-acts .image-is)
       (unlink-done w bytes p (unlink-acts .first) x (unlink-can (unlink-tests w p (unlink-acts .first) x) (unlink-acts .done) .3))
 
+  pub unlinked-parent : Reached img p
+  unlinked-parent = unlink-acts .first
+
+  pub unlinked-target : (k : FileType) × Target img p x k
+  unlinked-target = target w p (unlink-acts .first) x (unlink-acts .done)
+
   pub unlinked-frame : Frame (w .inodes) img img′ (p ∷ namedBy img p x ∷ []) []
-  unlinked-frame =
-      let t = target w p (unlink-acts .first) x (unlink-acts .done) in
-      unlink-frame w (t .1 .parent) (t .1 .reached) unlinked-done
+  unlinked-frame = unlink-frame w (unlinked-target .1 .parent) (unlinked-target .1 .reached) unlinked-done
 
 -- ---- move
 
@@ -132,7 +141,7 @@ module _ {img img′ s s′ : List ℕ} (w : Whole img) (bytes : Bytes img) {p :
   abbrev move-asked : Acted
   move-asked = moveAnswer (blocks img) img p old t new
 
-  move-acts : Acting img img′ (moveCard (blocks img) img p old t new) p t move-asked r
+  pub move-acts : Acting img img′ (moveCard (blocks img) img p old t new) p t move-asked r
   move-acts = acting move-asked (moveCard (blocks img) img p old t new) (c .opened) (c .opening) (c .said) (c .image) z
 
   move-fine : move-asked ≡ Done
@@ -141,10 +150,11 @@ module _ {img img′ s s′ : List ℕ} (w : Whole img) (bytes : Bytes img) {p :
   pub moved-done : MoveDone (w .inodes) img img′ p old (whereIs img p old) t (namedBy img p old) new
   moved-done = rw (move-acts .image-is) (move-done w bytes p t old new src (move-acts .first) (move-acts .second) move-fine)
 
+  pub moved-judged : Judged img p old t new
+  moved-judged = judged w p t old new (move-acts .first) (move-acts .second) move-fine
+
   pub moved-frame : Frame (w .inodes) img img′ (p ∷ t ∷ namedBy img p old ∷ []) []
-  moved-frame =
-      let j = judged w p t old new (move-acts .first) (move-acts .second) move-fine in
-      move-frame (w .sound) (j .p-dir) (j .t-dir) moved-done
+  moved-frame = move-frame (w .sound) (moved-judged .p-dir) (moved-judged .t-dir) moved-done
 
 -- ---- format
 

@@ -14,7 +14,14 @@ use Rattle.card_layout.specs.Sizes.{blocksFor}
 use Rattle.card_layout.specs.Slots.{owned, owned-values}
 use Rattle.card_layout.specs.declared.inode.FileType.the-variants.{Dir}
 use Rattle.card_rules.specs.View.{dataAt, name}
+use Rattle.card_rules.specs.Whole.{root}
 use Rattle.card_rules.proofs.Views.{owned-few, owned-least}
+use Rattle.check_walk.specs.declared.Opened.{Opened}
+use Rattle.check_walk.specs.declared.Opened.the-variants.{Open}
+use Rattle.check_walk.specs.Opening.{Opening, countsAt}
+use Rattle.check_walk.proofs.Agree.{opened}
+use Rattle.check_line.specs.Line.{lineOf}
+use Rattle.check_line.proofs.Line.{line-fresh, line-refused}
 use Rattle.dir_entries.specs.Entries.{eqs}
 use Rattle.dir_entries.specs.Names.{dot, dots}
 use Rattle.dir_create.specs.Create.{createAnswer, createCard}
@@ -22,14 +29,14 @@ use Rattle.dir_unlink.specs.Unlink.{unlinkAnswer, unlinkCard}
 use Rattle.dir_answers.specs.declared.Acted.the-variants.{BadName, IsDir}
 use Rattle.dir_answers.specs.Answers.{actedNo, theInode}
 use Rattle.file_grow.proofs.Taken.{nthFree}
-use Rattle.law_calls.specs.Examples.{fresh, created, withA, sizedA, Examples}
+use Rattle.law_calls.specs.Examples.{fresh, created, withA, sizedA, freshLine, Examples}
 use Rattle.law_files.proofs.Requests.{of-kind}
 use Rattle.law_dirs.proofs.FreshBytes.{bytes-tested, name-tested}
 use Rattle.law_dirs.proofs.FreshCard.{format-done}
 use Rattle.law_files.proofs.FreeFrom.{byte-from, nth-from}
 use Rattle.law_dirs.proofs.CreateTests.{Known, CreateTests, create-6, create-8, create-9, create-12, create-13, create-14, create-done, create-tests, create-refused}
 use Rattle.law_dirs.proofs.UnlinkTests.{unlink-refused}
-use Rattle.law_calls.proofs.ExamplesFresh.{Start, Given, start, root-listed, start-free, creates, create-4, root-size, root-links, third-name, unused-left}
+use Rattle.law_calls.proofs.ExamplesFresh.{Start, Given, start, whole, root-listed, start-free, creates, create-4, root-size, root-links, third-name, unused-left}
 use Rattle.law_calls.proofs.ExamplesFile.{FileCard, free-at, known-file, file-card, too-long, no-room, sized-done, sized-card, sized-data, reads-none, reads-same}
 
 -- ---- names
@@ -137,6 +144,17 @@ module _ (img : List ℕ) (bytes : Bytes img) (long : 73728 ≤ length img) wher
   l16 : First (fresh 16 img) (created 16 (replicate 255 97) 1 img) 16 (replicate 255 97) 1 0
   l16 = first-by s16 name-255 1 known-file
 
+  -- the check of the formatted card
+  counts-16 : countsAt (fresh 16 img) ≡ record { blocks = 16; unused = 12 }
+  counts-16 = rw (s16 .fresh .blocks-are, s16 .fresh .unused-are)
+
+  checked-16 : (s s′ : List ℕ) (o : Opened) → Opening (fresh 16 img) s s′ 1 1 o → 64 ≤ length s
+      → (o ≡ Open (record { blocks = 16; unused = 12 })) × (lineOf o ≡ freshLine)
+  checked-16 s s′ o z enough =
+      let e : o ≡ Open (record { blocks = 16; unused = 12 }) =
+      opened z .1 (omega (arith, s16 .fresh .blocks-are)) (whole s16) root root .0 ∙ ap Open counts-16 in
+      (e, ap lineOf e ∙ line-fresh)
+
   -- the lengths, by the blocks that they take
   two-blocks : owned (blocksFor 4097) ≡ 2
   two-blocks = owned-few 2 (omega arith)
@@ -163,6 +181,8 @@ module _ (img : List ℕ) (bytes : Bytes img) (long : 73728 ≤ length img) wher
           s16 .fresh .bare .linked,
           s16 .fresh .bare .slot,
         );
+        checked = checked-16;
+        refused-line = line-refused;
         file-a = (
           f16 .answer,
           omega (arith, f16 .unused-are),

@@ -30,7 +30,7 @@ use Rattle.dir_format.specs.Format.{formatted, formatCard}
 use Rattle.dir_create.specs.Create.{createTakes, createAnswer, createCard}
 use Rattle.dir_answers.specs.Answers.{theInode}
 use Rattle.law_files.proofs.FreeFrom.{FreeFrom, lowest-from}
-use Rattle.law_dirs.proofs.FreshCard.{Fresh, Fits, fresh-views, fresh-bytes, fresh-card, format-card}
+use Rattle.law_dirs.proofs.FreshCard.{Fresh, Fits, fresh-views, fresh-bytes, fresh-card, fresh-length, format-card}
 use Rattle.law_dirs.proofs.CreateTests.{Known, CreateTests, create-6, create-8, create-9, create-12, create-13, create-14, create-done, create-tests}
 use Rattle.law_dirs.proofs.CreateCard.{CreateDone, create}
 
@@ -59,6 +59,11 @@ start img bytes nb few many long =
       fresh = fresh-views img nb few many long;
     })
 
+pub start-length : (img : List ℕ) (nb : ℕ) → fewest ≤ nb → nb ≤ most → 4096 * nb ≤ length img → length (formatCard img (4096 * nb)) ≡ length img
+start-length img nb few many long =
+    let e : blocksFor (4096 * nb) ≡ nb = omega arith in
+    ap length (format-card img (4096 * nb) (fits (length img) nb few many long) ∙ ap (λ (n : ℕ). formatted n img) e) ∙ fresh-length img nb few many long
+
 -- a name that its root can take
 pub record Given (x : List ℕ) : Type 0 where
   pub named : Name x
@@ -71,7 +76,7 @@ one-more true = omega arith
 one-more false = omega arith
 
 module _ {c : List ℕ} {nb : ℕ} (s : Start c nb) where
-  abbrev whole : Whole c
+  abbrev pub whole : Whole c
   whole = record { inodes = one; sound = s .sound; tree = s .tree }
 
   pub root-listed : 0 < cnt 1 one

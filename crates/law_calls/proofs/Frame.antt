@@ -1,4 +1,4 @@
--- Every call that is done leaves a Frame (specs/Frame): create, link, unlink and move by what each promises, a call on a file by its step. Assumes nothing.
+-- Every call that is done leaves a Frame (specs/Inner): create, link, unlink and move by what each promises, a call on a file by its step. Assumes nothing.
 use mathlib.Core.Path.{_≡_, refl, sym, ap, _∙_, subst}
 use mathlib.Core.Logic.{_≢_}
 use mathlib.Core.List.{List, [], _∷_}
@@ -13,10 +13,12 @@ use Rattle.card_rules.specs.View.{naming}
 use Rattle.card_rules.specs.Whole.{Reached, root, down, Sound, Tree, Whole}
 use Rattle.card_rules.proofs.Tree.{named-some, reached-listed}
 use Rattle.card_rules.proofs.Kept.{slots-few}
-use Rattle.card_rules.proofs.Frames.{SameFile, size-is, kind-is, count-is, fileByte-is, file-refl, inode-room}
+use Rattle.card_rules.specs.Same.{SameFile}
+use Rattle.card_rules.proofs.Frames.{size-is, kind-is, count-is, fileByte-is, file-refl}
 use Rattle.dir_answers.specs.Answers.{namedBy}
-use Rattle.law_files.specs.Days.{Request, named}
-use Rattle.law_calls.specs.Frame.{Relisted, same, more, less, SameData, Frame}
+use Rattle.law_files.specs.Requests.{Request, named}
+use Rattle.law_calls.specs.SameData.{SameData}
+use Rattle.law_calls.specs.Inner.{Relisted, same, more, less, Frame}
 use Rattle.law_files.proofs.Resized.{held-is, in-use-is}
 use Rattle.law_files.proofs.Steps.{Step}
 use Rattle.law_dirs.proofs.CreateCard.{CreateDone}
@@ -37,7 +39,7 @@ same-data-trans {img} {mid} {out} {m} a b =
       size-is = b .size-is ∙ a .size-is;
       count-is = b .count-is ∙ a .count-is;
       places = λ q u. b .places q (in-use-is mid img m (sym (a .count-is)) q u) ∙ a .places q u;
-      kept = λ o h. b .kept o (rw (a .size-is) h) ∙ a .kept o h;
+      kept = λ o h. b .kept o (rw (a .count-is) h) ∙ a .kept o h;
     }
 
 -- who is the same has the same data
@@ -48,7 +50,7 @@ file-data s m h x =
       size-is = size-is (x .slots .rec);
       count-is = count-is (x .slots .rec);
       places = held-is (x .slots) (slots-few s m h);
-      kept = λ o a. fileByte-is x o (omega (arith, inode-room (s .inode m h)));
+      kept = λ o a. fileByte-is x o a;
     }
 
 -- ---- in none of a list
@@ -134,7 +136,7 @@ module _ {img out : List ℕ} (w : Whole img) {p : ℕ} {x : List ℕ} (dir : ki
             size-is = y .size-is;
             count-is = y .count-is;
             places = y .places;
-            kept = λ o a. y .kept o (omega (arith, inode-room (w .sound .inode c h)));
+            kept = y .kept;
           }
 
       file : (m : ℕ) → 0 < cnt m (w .inodes) → kind img m ≢ 2 → Dec (m ≡ c) → SameData img out m
@@ -167,7 +169,7 @@ module _ {img out : List ℕ} (w : Whole img) {p : ℕ} {x : List ℕ} (dir : ki
         size-is = u .size-is;
         count-is = u .count-is;
         places = u .places;
-        kept = λ o a. u .data-same o (omega (arith, inode-room (w .sound .inode c c-in)));
+        kept = u .data-same;
       }
 
   file-kept : (m : ℕ) → 0 < cnt m (w .inodes) → kind img m ≢ 2 → Dec (m ≡ c) → SameData img out m

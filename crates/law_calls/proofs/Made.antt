@@ -1,6 +1,5 @@
--- Every public call, done or refused, and every run of them keeps a whole card whole, and changes no file that it does not write: a record that is not removed
--- and not itself written keeps its kind, length, blocks and bytes (`answer`). Assumes nothing.
-use mathlib.Core.Path.{_≡_, sym, _∙_}
+-- Every public call, done or refused, keeps a whole card whole, and changes no file that it does not write. Assumes nothing.
+use mathlib.Core.Path.{_≡_}
 use mathlib.Core.Logic.{_≢_}
 use mathlib.Core.List.{List, [], _∷_}
 use Prim.Native.Nat.{ℕ}
@@ -10,12 +9,13 @@ use Rattle.words.specs.Sums.{cnt}
 use Rattle.card_layout.specs.Inode.{kind}
 use Rattle.card_rules.specs.Whole.{Reached, Sound, Tree, Whole}
 use Rattle.card_rules.proofs.Tree.{reached-listed}
-use Rattle.card_rules.proofs.Frames.{SameFile}
+use Rattle.card_rules.specs.Same.{SameFile}
 use Rattle.call_said.specs.Said.{saidNo}
 use Rattle.call_said.specs.declared.Said.{Said}
-use Rattle.law_files.specs.Days.{Request, named, OfBytes}
+use Rattle.law_files.specs.Requests.{Request, named, OfBytes}
 use Rattle.law_calls.specs.Calls.{Called, read, write, resize}
-use Rattle.law_calls.specs.Frame.{SameData, Frame}
+use Rattle.law_calls.specs.SameData.{SameData}
+use Rattle.law_calls.specs.Inner.{Frame}
 use Rattle.law_calls.specs.Made.{
   Asked,
   file,
@@ -28,11 +28,10 @@ use Rattle.law_calls.specs.Made.{
   find,
   list,
   describe,
+  check,
   OfBytesAll,
   namesOf,
   writesOf,
-  Run,
-  RunBeside,
 }
 use Rattle.law_files.proofs.Writing.{step}
 use Rattle.law_calls.proofs.Calls.{Outcome, stays, acts, called}
@@ -47,7 +46,7 @@ module _ {l img img′ : List ℕ} (s : Sound img l) (t : Tree img l) (b : Bytes
   file-outcome q o (stays e _) = rw e (frame-same s t b)
   file-outcome q o (acts e _) = rw e (step-frame s (step s t b q o))
 
-  pub file-frame : {q : Request} {r : Said} → OfBytes q → Called img img′ q r → Frame l img img′ (named q ∷ []) (writesOf (file q))
+  pub file-frame : {q : Request} {r : Said} → OfBytes q → Called img img′ q r → Frame l img img′ (namesOf img (file q)) (writesOf (file q))
   file-frame o (read s′ s″ buf buf′ n off r c e) = rw e (frame-same s t b)
   file-frame {q} o (write s′ s″ src n off r c) = file-outcome q o (called t (write s′ s″ src n off r c))
   file-frame {q} o (resize s′ s″ n len r c) = file-outcome q o (called t (resize s′ s″ n len r c))
@@ -64,6 +63,7 @@ module _ {img img′ : List ℕ} (w : Whole img) (b : Bytes img) where
   done-frame o (find s s′ p x r c e) z = rw e (frame-same (w .sound) (w .tree) b)
   done-frame o (list s s′ p k r x c e) z = rw e (frame-same (w .sound) (w .tree) b)
   done-frame o (describe s s′ n r k l m v c e) z = rw e (frame-same (w .sound) (w .tree) b)
+  done-frame o (check s s′ a r c i e) z = rw e (frame-same (w .sound) (w .tree) b)
 
   pub made-frame : {q : Asked} {r : Said} → OfBytesAll q → Made img img′ q r → Frame (w .inodes) img img′ (namesOf img q) (writesOf q)
   made-frame {q} {r} o m = go (ℕ-discrete (saidNo r) 0)
@@ -86,21 +86,3 @@ module _ {img img′ : List ℕ} (w : Whole img) (b : Bytes img) where
     -- and every file or symbolic link that it does not write, named or not, all but its links
     pub made-files : (n : ℕ) → Reached img n → kind img n ≢ 2 → cnt n (writesOf q) ≡ 0 → SameData img img′ n
     made-files n h = made-frame o m .files n (reached-listed img w n h)
-
--- ---- runs of calls
-
-pub run-whole : {img out : List ℕ} {qs : List Asked} → Whole img → Bytes img → Run img out qs → Whole out
-run-whole w b Run.none = w
-run-whole w b (Run.next o m r) = run-whole (made-whole w b o m) (made-bytes w b o m) r
-
-pub run-bytes : {img out : List ℕ} {qs : List Asked} → Whole img → Bytes img → Run img out qs → Bytes out
-run-bytes w b Run.none = b
-run-bytes w b (Run.next o m r) = run-bytes (made-whole w b o m) (made-bytes w b o m) r
-
--- the insurer's question: a record that is not removed and not itself written keeps its kind, length, blocks and bytes, whatever else is called
-pub answer : {img out : List ℕ} {m : ℕ} {qs : List Asked} → Whole img → Bytes img → Reached img m → kind img m ≢ 2 → RunBeside m img out qs
-    → SameData img out m
-answer {img} {out} {m} w b h d RunBeside.none = same-data-refl img m
-answer {img} {out} {m} w b h d (RunBeside.next o c z r rest) =
-    let x = made-files w b o c m h d z in
-    same-data-trans x (answer (made-whole w b o c) (made-bytes w b o c) r (λ e. d (sym (x .kind-is) ∙ e)) rest)

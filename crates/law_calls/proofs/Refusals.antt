@@ -44,9 +44,9 @@ use Rattle.call_files.specs.FileCalls.{Read}
 use Rattle.call_dirs.specs.DirCalls.{Formatted}
 use Rattle.call_looks.specs.LookCalls.{Listed}
 use Rattle.call_said.specs.declared.Said.{Said}
-use Rattle.law_files.specs.Days.{Request}
+use Rattle.law_files.specs.Requests.{Request}
 use Rattle.law_calls.specs.Calls.{Called, read, write, resize}
-use Rattle.law_calls.specs.Made.{Asked, Made, filed, create, link, unlink, move, find, list, describe}
+use Rattle.law_calls.specs.Made.{Asked, Made, filed, create, link, unlink, move, find, list, describe, check}
 use Rattle.law_calls.proofs.Calls.{said-filed}
 use Rattle.law_dirs.proofs.CreateTests.{create-refused}
 use Rattle.law_dirs.proofs.LinkTests.{link-refused}
@@ -167,3 +167,4 @@ refused-same {img} (move s s′ p old t new r c) d =
 refused-same (find s s′ p x r c e) d = e
 refused-same (list s s′ p k r b c e) d = e
 refused-same (describe s s′ n r a b f g c e) d = e
+refused-same (check s s′ o r c i e) d = e

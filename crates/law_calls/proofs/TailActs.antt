@@ -27,7 +27,8 @@ use Rattle.dir_create.specs.Create.{fileKind, freshInode, madeFile, bareDir, em
 use Rattle.dir_link.specs.Link.{linked}
 use Rattle.dir_unlink.specs.Unlink.{linksLeft, parentLess, dropped, unlinked}
 use Rattle.dir_move.specs.Move.{upPut, movedFile, movedDir, moved}
-use Rattle.law_calls.proofs.TailSteps.{Tailed, below-keeps, Growable, tail-encoded, tail-taken, tail-freed, tail-shrunk, tail-filled, tail-grown}
+use Rattle.law_calls.specs.Tail.{Tailed}
+use Rattle.law_calls.proofs.TailSteps.{below-keeps, Growable, tail-encoded, tail-taken, tail-freed, tail-shrunk, tail-filled, tail-grown}
 
 -- an inode record has twelve direct slots, as the card has it too
 abbrev pub Twelve : DiskINode → Type 0

@@ -30,14 +30,16 @@ use Rattle.dir_answers.proofs.Ready.{below-ready, size-ready}
 use Rattle.call_said.specs.Said.{ifOpen}
 use Rattle.call_said.specs.declared.Said.{Said}
 use Rattle.call_said.proofs.Opened.{ready}
-use Rattle.law_files.specs.Days.{Request}
+use Rattle.law_files.specs.Requests.{Request}
 use Rattle.law_calls.specs.Calls.{Called, read, write, resize}
-use Rattle.law_calls.specs.Made.{Asked, Made, filed, create, link, unlink, move, find, list, describe, Run}
+use Rattle.law_calls.specs.Made.{Asked, Made, filed, create, link, unlink, move, find, list, describe, check}
+use Rattle.law_calls.specs.Runs.{Call, Run, none, next}
+use Rattle.law_calls.specs.Tail.{Tailed}
 use Rattle.law_calls.proofs.Both.{both-if, both-done, both-head, both-file}
 use Rattle.law_files.proofs.Requests.{judged-long, write-past}
 use Rattle.law_dirs.proofs.UnlinkTests.{target}
 use Rattle.law_calls.proofs.Made.{made-frame, made-whole, made-bytes}
-use Rattle.law_calls.proofs.TailSteps.{Tailed, tailed-refl, tailed-trans, tail-filled}
+use Rattle.law_calls.proofs.TailSteps.{tailed-refl, tailed-trans, tail-filled}
 use Rattle.law_calls.proofs.TailActs.{twelve-at, tail-resized, tail-reaching, tail-made, tail-linked, tail-unlinked, tail-moved}
 
 -- ---- what a call leaves, by its tests
@@ -203,14 +205,16 @@ module _ {img img′ : List ℕ} where
   made-tailed (find s s′ p x r c e) = rw e (tailed-refl (blocks img) img)
   made-tailed (list s s′ p k r x c e) = rw e (tailed-refl (blocks img) img)
   made-tailed (describe s s′ n r k l m v c e) = rw e (tailed-refl (blocks img) img)
+  made-tailed (check s s′ o r c i e) = rw e (tailed-refl (blocks img) img)
 
   pub made-tail : {q : Asked} {r : Said} → Made img img′ q r
       → (length img′ ≡ length img) × ((j : ℕ) → 4096 * blocks img ≤ j → byte img′ j ≡ byte img j)
   made-tail m = let t = made-tailed m in (t .length-same, t .past)
 
 -- a run of calls on a card, which keeps its block count all along
-pub run-tailed : {img out : List ℕ} {qs : List Asked} → Whole img → Bytes img → Run img out qs → Tailed (blocks img) img out
-run-tailed {img} w b Run.none = tailed-refl (blocks img) img
-run-tailed w b (Run.next o m r) =
+pub run-tailed : {P : List ℕ → List ℕ → Call → Type 0} {img out : List ℕ} {cs : List Call} → Whole img → Bytes img → Run P img out cs
+    → Tailed (blocks img) img out
+run-tailed {img = img} w b none = tailed-refl (blocks img) img
+run-tailed w b (next o m p r) =
     tailed-trans (made-tailed m)
     (rw (← made-frame w b o m .blocks-same) (run-tailed (made-whole w b o m) (made-bytes w b o m) r))

@@ -25,12 +25,8 @@ use Rattle.file_blocks.specs.Ranges.{partFrom, partTo, partsFrom, partsTo}
 use Rattle.file_blocks.proofs.Picks.{pick-both}
 use Rattle.file_blocks.proofs.Lengths.{length-put as length-piece}
 use Rattle.file_blocks.proofs.Growth.{seconds-up, levelRun, singleRun, partRun, twofoldTurn, twofoldRun}
+use Rattle.law_calls.specs.Tail.{Tailed}
 use Rattle.law_calls.proofs.Both.{both-below}
-
--- out is as long as img, and has its bytes from block nb on
-pub record Tailed (nb : ℕ) (img out : List ℕ) : Type 0 where
-  pub length-same : length out ≡ length img
-  pub past : (j : ℕ) → 4096 * nb ≤ j → byte out j ≡ byte img j
 
 pub tailed-refl : (nb : ℕ) (img : List ℕ) → Tailed nb img img
 tailed-refl nb img = record { length-same = refl; past = λ j a. refl }

@@ -16,7 +16,8 @@ use Rattle.card_layout.specs.Entry.{entryOf}
 use Rattle.card_layout.specs.declared.inode.FileType.{FileType}
 use Rattle.card_layout.specs.declared.inode.Head.{Head}
 use Rattle.card_layout.specs.declared.inode.DiskINode.{DiskINode}
-use Rattle.file_blocks.specs.Bytes.{afterOf, levelsFrom, levelsTo, pieceRead, runRead, directRead, indirectRead, levelRead, doubleRead, readInto}
+use Rattle.file_blocks.specs.Bytes.{afterOf, pieceRead, runRead, directRead, indirectRead, levelRead, doubleRead, readInto}
+use Rattle.file_blocks.specs.Inner.{levelsFrom, levelsTo}
 use Rattle.file_blocks.proofs.Growth.{nextFree-below}
 use Rattle.file_requests.specs.Resizing.{ofLength, growth, lengthened, longer, fileBlocks, shorter, resized}
 use Rattle.file_requests.specs.Requests.{longest, recordWith, reaching}
@@ -27,8 +28,8 @@ use Rattle.dir_create.specs.Create.{fileKind, freshInode, madeFile, bareDir, em
 use Rattle.dir_link.specs.Link.{linked}
 use Rattle.dir_unlink.specs.Unlink.{linksLeft, parentLess, dropped, unlinked}
 use Rattle.dir_move.specs.Move.{upPut, movedFile, movedDir, moved}
+use Rattle.law_calls.specs.Tail.{Twin}
 use Rattle.law_calls.proofs.Both.{both-below, both-pick, both-turns}
-use Rattle.law_calls.proofs.Twins.{Twin}
 use Rattle.law_calls.proofs.TwinSteps.{
   word-twin,
   slot-twin,

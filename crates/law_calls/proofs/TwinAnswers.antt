@@ -1,26 +1,20 @@
 -- "Bytes past its last block are never read" (RULES), of what is answered: on two images with the same blocks, of which one is a whole card, every call
--- answers the same for inodes that are reached, and opening the two answers the same where the scratch is long enough for both. Assumes nothing.
-use mathlib.Core.Path.{_≡_, refl, sym, ap, _∙_}
+-- answers the same for inodes that are reached. Assumes nothing.
+use mathlib.Core.Path.{_≡_, refl, ap, _∙_}
 use mathlib.Core.Bool.{Bool, true, false}
 use mathlib.Core.List.{List}
-use Prim.Native.Nat.{ℕ, zero, suc, _+_, _-_, _*_, _≤_, _<_, min}
+use Prim.Native.Nat.{ℕ, zero, suc, _+_, _-_, _*_, _<_, min}
 use native.Mathlib.Omega.{arith}
 use lib.Dec.{eqb, ltb}
-use lib.ListN.{length, replicate, length-replicate}
+use lib.ListN.{length}
 use Rattle.words.specs.Words.{pick}
-use Rattle.card_layout.specs.Sizes.{fewest}
-use Rattle.card_layout.specs.Super.{magic, blocks, unused}
+use Rattle.card_layout.specs.Super.{blocks, unused}
 use Rattle.card_layout.specs.Inode.{kind, decoded}
 use Rattle.card_layout.specs.declared.inode.Head.{Head}
 use Rattle.card_layout.specs.declared.inode.Decoded.{Decoded}
 use Rattle.card_layout.specs.declared.inode.Decoded.the-variants.{Good, BadKind}
 use Rattle.card_rules.specs.View.{fileBytes, entries, entry}
-use Rattle.card_rules.specs.Whole.{Sized, Reached, Whole}
-use Rattle.card_rules.proofs.Kept.{magic-is, blocks-is, unused-is, maps-is}
-use Rattle.check_walk.specs.declared.Opened.{Opened}
-use Rattle.check_walk.specs.declared.Opened.the-variants.{Open, ScratchShort}
-use Rattle.check_walk.specs.Opening.{countsAt, cleared, Opening, whole, no-inode, damaged, scratch-short, wrong-fs, unsized}
-use Rattle.check_walk.proofs.Agree.{agree}
+use Rattle.card_rules.specs.Whole.{Reached, Whole}
 use Rattle.file_requests.specs.Requests.{byFile, judged, onDone, endOf, writeJudged, resizeAnswer, writeAnswer, readAnswer}
 use Rattle.file_requests.specs.declared.Filed.{Filed}
 use Rattle.file_requests.specs.declared.Filed.the-variants as F
@@ -50,17 +44,11 @@ use Rattle.dir_move.specs.Move.{climbs, moveRoom, moveAnswer}
 use Rattle.dir_move.proofs.Climbing.{up-dir}
 use Rattle.dir_look.specs.Look.{findAnswer, entryAnswer, noEntry, entryBytes}
 use Rattle.law_dirs.proofs.LookTests.{EntryTests, entry-6, entry-10, entry-done, entry-tests}
+use Rattle.law_calls.specs.Tail.{Twin}
 use Rattle.law_calls.proofs.Both.{both-below}
-use Rattle.law_calls.proofs.Twins.{Twin}
-use Rattle.law_calls.proofs.TwinSteps.{twin-refl}
 use Rattle.law_calls.proofs.TwinReads.{
-  twin-sym,
-  twin-super,
   unused-twin,
   next-twin,
-  whole-twin,
-  reached-on,
-  reached-back,
   decoded-twin,
   entries-twin,
   entry-twin,
@@ -241,59 +229,3 @@ module _ {img out : List ℕ} (w : Whole img) (t : Twin (blocks img) img out) wh
       ap (λ (c : ℕ). moveRoom (blocks img) out c g n h) (named-twin w t p r old l)
       ∙ moveRoom-twin n q e (namedBy img p old) g h)))
       refl)))))
-
--- ---- opening
-
--- right sizes go by the superblock and the length
-sized-twin : {img out : List ℕ} → Twin (blocks img) img out → fewest ≤ blocks img → Sized img → Sized out
-sized-twin {img} {out} t few z =
-    let s = twin-super t (omega arith) in
-    record {
-      magic-right = magic-is s ∙ z .magic-right;
-      few = rw (blocks-is s) (z .few);
-      many = rw (blocks-is s) (z .many);
-      mapped = rw (blocks-is s, maps-is s) (z .mapped);
-      long = rw (blocks-is s, t .length-same) (z .long);
-    }
-
--- a scratch that is long enough for img: an answer goes by the length of the scratch alone
-abbrev ample : List ℕ → List ℕ
-ample img = replicate (4 * blocks img) 0
-
-ample-long : (img : List ℕ) → 4 * blocks img ≤ length (ample img)
-ample-long img = omega (arith, length-replicate {A = ℕ} (4 * blocks img) 0)
-
--- an answer for one image is one for the other, which has the same superblock and is whole where it is
-module _ {img out : List ℕ} (few : fewest ≤ blocks img) (t : Twin (blocks img) img out) where
-  blocks-same : blocks out ≡ blocks img
-  blocks-same = blocks-is (twin-super t (omega arith))
-
-  magic-same : magic out ≡ magic img
-  magic-same = magic-is (twin-super t (omega arith))
-
-  counts-same : countsAt out ≡ countsAt img
-  counts-same = rw (blocks-same, unused-is (twin-super t (omega arith)))
-
-  back : Twin (blocks out) out img
-  back = rw blocks-same (twin-sym t)
-
-  few-out : fewest ≤ blocks out
-  few-out = rw blocks-same few
-
-  answered : (s s′ : List ℕ) (a b : ℕ) (o : Opened) → (o ≡ ScratchShort → ⊥) → Opening out s s′ a b o → (u : List ℕ) × Opening img (ample img) u a b o
-  answered s s′ a b o d (whole l w x y e f) =
-      (cleared img (ample img), whole (ample-long img) (whole-twin w back) (reached-on w back a x) (reached-on w back b y) (e ∙ ap Open counts-same) refl)
-  answered s s′ a b o d (no-inode l w x e f) =
-      (cleared img (ample img), no-inode (ample-long img) (whole-twin w back) (λ p q. x (reached-back w back a p) (reached-back w back b q)) e refl)
-  answered s s′ a b o d (damaged z l w e f) =
-      (cleared img (ample img), damaged (sized-twin back few-out z) (ample-long img) (λ v. w (whole-twin v t)) e refl)
-  answered s s′ a b o d (scratch-short z l e f) = absurd (d e)
-  answered s s′ a b o d (wrong-fs l w e f) = (ample img, wrong-fs (omega (arith, t .length-same)) (λ m. w (magic-same ∙ m)) e refl)
-  answered s s′ a b o d (unsized l w e f) =
-      (ample img, unsized (λ m. sym magic-same ∙ l (omega (arith, t .length-same))) (λ z. w (sized-twin t few z)) e refl)
-
--- two images with the same blocks are opened alike, each with a scratch that is long enough for it
-pub opening-twin : {img out s s′ u u′ : List ℕ} {a b : ℕ} {o o′ : Opened} → fewest ≤ blocks img → Twin (blocks img) img out
-    → (o ≡ ScratchShort → ⊥) → (o′ ≡ ScratchShort → ⊥) → Opening img s s′ a b o → Opening out u u′ a b o′ → o ≡ o′
-opening-twin {img} {out} {s} {s′} {u} {u′} {a} {b} {o} {o′} few t d d′ p p′ =
-    agree (answered few (twin-refl (blocks img) img (t .room)) s s′ a b o d p .1) (answered few t u u′ a b o′ d′ p′ .1) .0

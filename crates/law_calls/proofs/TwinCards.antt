@@ -21,9 +21,9 @@ use Rattle.dir_move.specs.Move.{moveAnswer, movedAt, moveCard}
 use Rattle.law_dirs.proofs.UnlinkTests.{target}
 use Rattle.law_dirs.proofs.MoveTests.{move-tests, move-can}
 use Rattle.law_dirs.proofs.MoveJudged.{judged as move-judged}
+use Rattle.law_calls.specs.Tail.{Twin}
 use Rattle.law_calls.proofs.TailCalls.{judged-small, write-small}
 use Rattle.law_calls.proofs.Both.{both-if, both-done, both-head, both-file}
-use Rattle.law_calls.proofs.Twins.{Twin}
 use Rattle.law_calls.proofs.TwinSteps.{twin-filled}
 use Rattle.law_calls.proofs.TwinActs.{twin-resized, twin-reaching, twin-made, twin-linked, twin-unlinked, twin-moved}
 use Rattle.law_calls.proofs.TwinReads.{decoded-twin, unused-twin, record-twin, where-twin, entry-twin}

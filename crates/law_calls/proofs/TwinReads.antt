@@ -1,26 +1,32 @@
 -- "Bytes past its last block are never read" (RULES), of all that the calls read: two images with the same blocks have the same superblock, map, records,
--- entries and file bytes, and if one of them is a whole card, so is the other, with the same inodes. Assumes nothing.
+-- entries and file bytes, and if one of them is a whole card, so is the other, with the same inodes: the rules ask of the length only that the blocks are
+-- there. Assumes nothing.
 use mathlib.Core.Path.{_≡_, refl, sym, ap, _∙_}
 use mathlib.Core.List.{List}
 use Prim.Native.Nat.{ℕ, _+_, _*_, _≤_, _<_, min}
 use native.Mathlib.Omega.{arith}
 use lib.ListN.{length}
 use Rattle.words.specs.Words.{pick}
+use Rattle.words.specs.Sums.{δ, sumTo, cnt}
+use Rattle.words.proofs.Sums.{sumOn-cong}
 use Rattle.card_layout.specs.Sizes.{fewest}
-use Rattle.card_layout.specs.Super.{blocks, unused}
+use Rattle.card_layout.specs.Super.{blocks, unused, maps}
 use Rattle.card_layout.specs.Inode.{size, kind, links, count, decoded}
 use Rattle.card_layout.specs.declared.inode.Head.{Head}
 use Rattle.card_layout.specs.declared.inode.Decoded.{Decoded}
 use Rattle.card_layout.specs.declared.inode.Decoded.the-variants.{Good, BadKind}
+use Rattle.card_map.specs.Bits.{mapBit}
 use Rattle.card_map.proofs.First.{first-cong}
-use Rattle.card_rules.specs.View.{fileBytes, entries, entry, name}
-use Rattle.card_rules.specs.Whole.{Reached, Whole}
+use Rattle.card_map.proofs.Map.{free-is}
+use Rattle.card_rules.specs.View.{fileBytes, entries, entry, name, owns, uses}
+use Rattle.card_rules.specs.Whole.{Sized, Reached, Sound, Whole}
 use Rattle.card_rules.specs.Places.{held}
-use Rattle.card_rules.proofs.Owners.{held-below}
+use Rattle.card_rules.proofs.Owners.{map-below, held-below}
 use Rattle.card_rules.proofs.Tree.{reached-listed}
-use Rattle.card_rules.proofs.Frames.{SameBlock, SameRecord, SameFile, size-is, kind-is, links-is, count-is, decoded-is, entries-is, inode-room, fileBytes-is, entry-is, name-is, file-held}
-use Rattle.card_rules.proofs.Kept.{SameSuper, super-block, blocks-is, unused-is, reached-to, reached-from}
-use Rattle.card_rules.proofs.Tail.{tail-free}
+use Rattle.card_rules.proofs.Views.{uses-parts}
+use Rattle.card_rules.specs.Same.{SameBlock, SameRecord, SameFile}
+use Rattle.card_rules.proofs.Frames.{size-is, kind-is, links-is, count-is, decoded-is, inode-is, owns-is, entries-is, inode-room, fileBytes-is, entry-is, name-is, file-held}
+use Rattle.card_rules.proofs.Kept.{SameSuper, SameMap, magic-is, blocks-is, unused-is, maps-is, super-block, map-blocks, slots-few, bit-of, reached-to, reached-from, tree-same}
 use Rattle.file_blocks.specs.Bytes.{readInto}
 use Rattle.file_blocks.specs.Taking.{nextFree}
 use Rattle.file_requests.specs.Requests.{byKind, byFile, recordWith, readBuffer}
@@ -28,7 +34,7 @@ use Rattle.dir_entries.specs.Entries.{eqs, sameAs, whereIs}
 use Rattle.dir_answers.specs.Answers.{namedBy}
 use Rattle.dir_answers.proofs.Ready.{inode-ready, below-ready, size-ready}
 use Rattle.dir_answers.proofs.Heads.{head-is}
-use Rattle.law_calls.proofs.Twins.{Twin}
+use Rattle.law_calls.specs.Tail.{Twin}
 use Rattle.law_calls.proofs.TwinSteps.{nextFree-twin}
 use Rattle.law_calls.proofs.TwinActs.{read-twin, recordWith-twin}
 
@@ -36,7 +42,7 @@ use Rattle.law_calls.proofs.TwinActs.{read-twin, recordWith-twin}
 
 module _ {nb : ℕ} {img out : List ℕ} (t : Twin nb img out) where
   pub twin-sym : Twin nb out img
-  twin-sym = record { length-same = sym (t .length-same); room = omega (arith, t .room, t .length-same); below = λ j l. sym (t .below j l) }
+  twin-sym = record { room = t .room-too; room-too = t .room; below = λ j l. sym (t .below j l) }
 
   twin-block : (b : ℕ) → b < nb → SameBlock img out b
   twin-block b l = record { bytes = λ k h. t .below (4096 * b + k) (omega arith) }
@@ -44,30 +50,86 @@ module _ {nb : ℕ} {img out : List ℕ} (t : Twin nb img out) where
   pub twin-super : 0 < nb → SameSuper img out
   twin-super l = super-block (twin-block 0 l)
 
+-- right sizes go by the superblock, and room for the blocks
+pub sized-twin : {img out : List ℕ} → 0 < blocks img → Twin (blocks img) img out → Sized img → Sized out
+sized-twin {img} {out} some t z =
+    let s = twin-super t some in
+    record {
+      magic-right = magic-is s ∙ z .magic-right;
+      few = rw (blocks-is s) (z .few);
+      many = rw (blocks-is s) (z .many);
+      mapped = rw (blocks-is s, maps-is s) (z .mapped);
+      long = rw (blocks-is s) (t .room-too);
+    }
+
+-- ---- the rules on blocks
+
+module _ {img out l : List ℕ} (s : Sound img l) (t : Twin (blocks img) img out) where
+  some-blocks : 0 < blocks img
+  some-blocks = omega (arith, s .sized .few)
+
+  same-super : SameSuper img out
+  same-super = twin-super t some-blocks
+
+  same-map : SameMap img out
+  same-map = map-blocks (λ i h. twin-block t (2 + i) (map-below img (s .sized) i h))
+
+  listed-twin : (n : ℕ) → 0 < cnt n l → SameFile img out n
+  listed-twin n h = file-held img out n (λ p u. twin-block t (held img n p) (held-below img l s n p h u))
+
+  uses-twin : (b : ℕ) → uses out l b ≡ uses img l b
+  uses-twin b =
+      omega (
+        arith,
+        uses-parts out l b,
+        uses-parts img l b,
+        ap (sumTo (λ i. δ (2 + i) b)) (maps-is same-super),
+        sumOn-cong (λ n. owns out n b) (λ n. owns img n b) l (λ n c. owns-is (listed-twin n c .slots) (slots-few s n c) b),
+      )
+
+  bit-twin : (b : ℕ) → b < blocks img → mapBit out b ≡ mapBit img b
+  bit-twin b q = same-map .bits b (bit-of img (s .sized) b q)
+
+  pub sound-twin : Sound out l
+  sound-twin =
+      record {
+        sized = sized-twin some-blocks t (s .sized);
+        past = λ b a q.
+            let q′ : b < 32768 * maps img = rw (maps-is same-super) at q in
+            same-map .bits b q′ ∙ s .past b (rw (blocks-is same-super) at a) q′;
+        free = rw (blocks-is same-super) (free-is img out (blocks img) bit-twin ∙ s .free ∙ sym (unused-is same-super));
+        inode = λ n c. inode-is (listed-twin n c .slots .rec) (s .inode n c);
+        once = λ b q.
+            let q′ : b < blocks img = rw (blocks-is same-super) at q in
+            omega (arith, uses-twin b, bit-twin b q′, s .once b q′);
+        below = λ b a. uses-twin b ∙ s .below b (rw (blocks-is same-super) at a);
+      }
+
 -- ---- on a whole card
 
 module _ {img out : List ℕ} (w : Whole img) (t : Twin (blocks img) img out) where
   few : fewest ≤ blocks img
   few = w .sound .sized .few
 
-  same-super : SameSuper img out
-  same-super = twin-super t (omega (arith, few))
-
   pub blocks-twin : blocks out ≡ blocks img
-  blocks-twin = blocks-is same-super
+  blocks-twin = blocks-is (same-super (w .sound) t)
 
   pub unused-twin : unused out ≡ unused img
-  unused-twin = unused-is same-super
+  unused-twin = unused-is (same-super (w .sound) t)
 
   pub next-twin : nextFree (blocks img) out 0 ≡ nextFree (blocks img) img 0
   next-twin = sym (nextFree-twin (blocks img) few 0 t)
 
-  pub whole-twin : Whole out
-  whole-twin = tail-free w (t .length-same) (t .below)
-
   file-twin : (n : ℕ) → Reached img n → SameFile img out n
-  file-twin n r =
-      file-held img out n (λ p u. twin-block t (held img n p) (held-below img (w .inodes) (w .sound) n p (reached-listed img w n r) u))
+  file-twin n r = listed-twin (w .sound) t n (reached-listed img w n r)
+
+  pub whole-twin : Whole out
+  whole-twin =
+      record {
+        inodes = w .inodes;
+        sound = sound-twin (w .sound) t;
+        tree = tree-same (w .tree) (λ n r. file-twin n r .slots .rec) (λ n r _. inode-ready img w n r) (λ n r _. file-twin n r);
+      }
 
   -- the reached inodes are the same, both ways
   pub reached-on : (n : ℕ) → Reached img n → Reached out n

@@ -1,15 +1,15 @@
 -- "Bytes past its last block are never read" (RULES): the steps of growth, shrinking and filling, on two cards with the same blocks. Each lemma says that the
 -- same step leaves the blocks of both the same. A store needs nothing for that; a read must be of the blocks, which the definitions' own tests give, once
 -- no range of slots goes past the last one. Assumes nothing.
-use mathlib.Core.Path.{_≡_, refl, sym, ap, _∙_}
+use mathlib.Core.Path.{_≡_, refl, sym, ap}
 use mathlib.Core.Bool.{Bool, true, false}
 use mathlib.Core.List.{List, [], _∷_}
 use Prim.Native.Nat.{ℕ, zero, suc, _+_, _-_, _*_, _/_, _%_, _≤_, _<_, min}
 use native.Mathlib.Omega.{arith}
-use native.Mathlib.Decide.{decLt, ℕ-discrete}
+use native.Mathlib.Decide.{ℕ-discrete}
 use lib.Dec.{ltb}
 use lib.ListN.{length, set, length-set}
-use lib.Seq.{getD-set-same, getD-set-other, set-out}
+use lib.Seq.{getD-set-same, getD-set-other}
 use Rattle.words.specs.Words.{pick, byte, num, word, putNum, putWord}
 use Rattle.words.specs.Runs.{puts, copied, zeroed}
 use Rattle.words.proofs.Numbers.{num-frame}
@@ -23,32 +23,29 @@ use Rattle.card_map.specs.Bits.{mapByte, mapBit, clearBit, setBit}
 use Rattle.card_map.specs.Free.{lowest, takenAt, taken, freed}
 use Rattle.card_map.proofs.Map.{bit-is}
 use Rattle.card_map.proofs.Laws.{lowest-cong}
-use Rattle.file_blocks.specs.Bytes.{put, levelsFrom, levelsTo, afterOf, pieceFill, runFill, directFill, indirectFill, levelFill, doubleFill, filled}
+use Rattle.file_blocks.specs.Bytes.{put, afterOf, pieceFill, runFill, directFill, indirectFill, levelFill, doubleFill, filled}
+use Rattle.file_blocks.specs.Inner.{levelsFrom, levelsTo}
 use Rattle.file_blocks.specs.Taking.{Cursor, Growing, nextFree, nextOf, tookNext, intoWord, intoDirect, intoIndirect, intoDouble, moved, growRun, growIndirect, growDouble, growLevel, growDirect, growSingle, growPart, growTwofold, grown, freedIn, freeRun, freeDirect, freeSingle, freePart, freeTwofold, freeIndirect, freeLevel, freeDouble, shrunk}
 use Rattle.file_blocks.specs.Ranges.{partsFrom, partsTo}
 use Rattle.file_blocks.proofs.Growth.{partRun, twofoldTurn}
+use Rattle.law_calls.specs.Tail.{Twin}
 use Rattle.law_calls.proofs.Both.{both-below, both-pick, both-turns}
-use Rattle.law_calls.proofs.Twins.{Twin}
 use Rattle.law_calls.proofs.TailSteps.{seconds-few}
 
-pub twin-refl : (nb : ℕ) (x : List ℕ) → 4096 * nb ≤ length x → Twin nb x x
-twin-refl nb x l = record { length-same = refl; room = l; below = λ j a. refl }
-
--- ---- stores: the same bytes at the same place, wherever that is
+-- ---- stores: the same bytes at the same place, wherever that is; in the blocks it is a place of both
 
 module _ {nb : ℕ} where
   twin-set : (at v : ℕ) {x y : List ℕ} → Twin nb x y → Twin nb (set x at v) (set y at v)
   twin-set at v {x} {y} t =
       record {
-        length-same = length-set y at v ∙ t .length-same ∙ sym (length-set x at v);
         room = rw (length-set x at v) (t .room);
-        below = λ j l. go j l (ℕ-discrete j at) (decLt at (length x));
+        room-too = rw (length-set y at v) (t .room-too);
+        below = λ j l. go j l (ℕ-discrete j at);
       }
     where
-      go : (j : ℕ) → j < 4096 * nb → Dec (j ≡ at) → Dec (at < length x) → byte (set y at v) j ≡ byte (set x at v) j
-      go j l (yes e) (yes p) = rw (e, getD-set-same x at v 0 p, getD-set-same y at v 0 (omega (arith, t .length-same)))
-      go j l (yes e) (no p) = rw (set-out x at v (omega arith), set-out y at v (omega (arith, t .length-same))) (t .below j l)
-      go j l (no d) p = rw (getD-set-other x at j v 0 d, getD-set-other y at j v 0 d) (t .below j l)
+      go : (j : ℕ) → j < 4096 * nb → Dec (j ≡ at) → byte (set y at v) j ≡ byte (set x at v) j
+      go j l (yes e) = rw (e, getD-set-same x at v 0 (omega (arith, t .room)), getD-set-same y at v 0 (omega (arith, t .room-too)))
+      go j l (no d) = rw (getD-set-other x at j v 0 d, getD-set-other y at j v 0 d) (t .below j l)
 
   twin-num : (n at v : ℕ) {x y : List ℕ} → Twin nb x y → Twin nb (putNum n x at v) (putNum n y at v)
   unfolding putNum

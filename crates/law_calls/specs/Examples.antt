@@ -1,10 +1,11 @@
--- The tried examples of RULES that are marked *, in its order and with its numbers, over the definitions of the calls (files/specs and those of the
+-- The tried examples of RULES that are marked *, in its order and with its numbers, over the definitions of the calls (file_requests/specs and those of the
 -- directory calls): one claim, `Examples`, which holds of any slice of bytes that is long enough (proofs/Examples). 97 is "a", 100 is "d"; the root is inode
 -- 1; the kinds are 1 for a file and 2 for a directory. RULES' numbers of the refusals are those of `filedNo` and `actedNo`: 7 IsDir, 8 BadName, 12
 -- InvalidParam, 14 NoDeviceSpace.
 use Prim.Native.Nat.{ℕ, _*_, _≤_}
 use mathlib.Core.Path.{_≡_}
 use mathlib.Core.List.{List, [], _∷_}
+use mathlib.Core.Logic.{_≢_}
 use lib.ListN.{length, replicate}
 use Rattle.words.specs.Words.{byte}
 use Rattle.card_layout.specs.Sizes.{blockSize}
@@ -12,6 +13,10 @@ use Rattle.card_layout.specs.Super.{blocks, unused}
 use Rattle.card_layout.specs.Inode.{size, links, direct}
 use Rattle.card_layout.specs.Slots.{owned}
 use Rattle.card_rules.specs.View.{dataAt, name}
+use Rattle.check_walk.specs.declared.Opened.{Opened}
+use Rattle.check_walk.specs.declared.Opened.the-variants.{Open}
+use Rattle.check_walk.specs.Opening.{Opening, statusOf}
+use Rattle.check_line.specs.Line.{checkLine, lineOf}
 use Rattle.dir_entries.specs.Names.{dots}
 use Rattle.file_requests.specs.Requests.{resizeAnswer, resizeCard, readAnswer, readBuffer}
 use Rattle.dir_format.specs.Format.{formatAnswer, formatCard}
@@ -38,6 +43,11 @@ withA nb img = created nb (97 ∷ []) 1 img
 abbrev pub sizedA : ℕ → ℕ → List ℕ → List ℕ
 sizedA nb len img = resizeCard nb (withA nb img) 4 len
 
+-- "status 0 blocks 16 free 12" and a newline
+abbrev pub freshLine : List ℕ
+freshLine =
+    115 ∷ 116 ∷ 97 ∷ 116 ∷ 117 ∷ 115 ∷ 32 ∷ 48 ∷ 32 ∷ 98 ∷ 108 ∷ 111 ∷ 99 ∷ 107 ∷ 115 ∷ 32 ∷ 49 ∷ 54 ∷ 32 ∷ 102 ∷ 114 ∷ 101 ∷ 101 ∷ 32 ∷ 49 ∷ 50 ∷ 10 ∷ []
+
 -- ---- the claim
 
 pub record Examples (img : List ℕ) : Type 0 where
@@ -45,6 +55,11 @@ pub record Examples (img : List ℕ) : Type 0 where
   pub formatted : (formatAnswer (length img) 65536 ≡ Acted.Done) × (blocks (fresh 16 img) ≡ 16) × (unused (fresh 16 img) ≡ 12)
       × (byte (fresh 16 img) 8192 ≡ 0xf0) × (byte (fresh 16 img) 8193 ≡ 0xff)
       × (size (fresh 16 img) 1 ≡ 520) × (links (fresh 16 img) 1 ≡ 2) × (direct (fresh 16 img) 1 0 ≡ 3)
+  -- "The program prints the single line `status 0 blocks 16 free 12`": the answer of the check, with scratch enough, and its line
+  pub checked : (s s′ : List ℕ) (o : Opened) → Opening (fresh 16 img) s s′ 1 1 o → 64 ≤ length s
+      → (o ≡ Open (record { blocks = 16; unused = 12 })) × (lineOf o ≡ freshLine)
+  -- "a refusal prints its number and two zeros"
+  pub refused-line : (o : Opened) → statusOf o ≢ 0 → lineOf o ≡ checkLine (statusOf o) 0 0
   -- "Then create file "a": number 4, unused 11, map byte e0, root size 780."
   pub file-a : (createAnswer 16 (fresh 16 img) 1 (97 ∷ []) 1 ≡ theInode 4) × (unused (withA 16 img) ≡ 11) × (byte (withA 16 img) 8192 ≡ 0xe0)
       × (size (withA 16 img) 1 ≡ 780)

@@ -1,4 +1,11 @@
 pub mod Calls
-pub mod Frame
 pub mod Made
+pub mod Runs
+pub mod Paths
+pub mod Days
+pub mod Tests
+pub mod SameData
+pub mod LookEffects
+pub mod Tail
 pub mod Examples
+pub mod Inner

@@ -15,7 +15,8 @@ use Rattle.card_layout.proofs.InodeLaws.{inodeAt}
 use Rattle.card_rules.specs.View.{entries, entry, name}
 use Rattle.card_rules.specs.Whole.{Sound}
 use Rattle.card_rules.specs.Places.{Place, held, InUse}
-use Rattle.card_rules.proofs.Views.{entry-cong, name-cong}
+use Rattle.card_rules.proofs.Views.{fileBytes-cong, entry-cong, name-cong}
+use Rattle.card_rules.proofs.Frames.{inode-room}
 use Rattle.card_rules.proofs.Kept.{slots-few}
 use Rattle.card_rules.proofs.Isolation.{sound-one, data-slots}
 use Rattle.file_requests.specs.Resizing.{resized}
@@ -24,8 +25,10 @@ use Rattle.dir_entries.specs.Entries.{entryPut, appended}
 use Rattle.law_files.proofs.Resized.{held-is}
 use Rattle.law_files.proofs.Return.{in-use-more}
 use Rattle.law_files.proofs.Edits.{Edited, edited-trans}
+use Rattle.law_dirs.specs.Entries.{entryIn}
+use Rattle.law_dirs.proofs.RecordBytes.{SameTail, tail-trans, tail-record}
 use Rattle.law_dirs.proofs.Links.{ResizedWith, links-change, resized-edited}
-use Rattle.law_dirs.proofs.Entry.{EntryPut, entry-put}
+use Rattle.law_dirs.proofs.Entry.{EntryPut, entry-put, put-beside}
 
 pub record Appended (img out : List ℕ) (n v : ℕ) (e : List ℕ) : Type 0 where
   pub edited : Edited img out n
@@ -39,6 +42,10 @@ pub record Appended (img out : List ℕ) (n v : ℕ) (e : List ℕ) : Type 0 whe
   pub name-kept : (i : ℕ) → i < entries img n → name out n i ≡ name img n i
   pub entry-new : entry out n (entries img n) ≡ numberIn e
   pub name-new : name out n (entries img n) ≡ uptoNul (drop 4 e)
+  -- byte by byte
+  pub bytes-kept : (i : ℕ) → i < entries img n → entryIn out n i ≡ entryIn img n i
+  pub bytes-new : entryIn out n (entries img n) ≡ e
+  pub tail : SameTail img out n
 
 -- the directory is 260 longer, then its last entry is e
 appended-by : {img mid out l e : List ℕ} {n v : ℕ} → Sound img l → 0 < cnt n l → ResizedWith img mid n (size img n + 260) v → EntryPut l mid out n (entries img n) e
@@ -62,6 +69,11 @@ appended-by {img} {mid} {out} {l} {e} {n} {v} s h r p =
           ∙ name-cong mid img n n i i (λ k q. r .kept (260 * i + 4 + k) (omega arith) (omega arith));
       entry-new = p .entry-new;
       name-new = p .name-new;
+      bytes-kept = λ i b.
+          put-beside p (inode-room (t .inode n h)) i (λ q. omega arith) (omega (arith, r .size-is))
+          ∙ fileBytes-cong mid img n n (260 * i) (260 * i) 260 (λ k q. r .kept (260 * i + k) (omega arith) (omega arith));
+      bytes-new = p .bytes-new;
+      tail = tail-trans (r .tail) (tail-record (p .rec));
     }
 
 module _ (img l : List ℕ) (s : Sound img l) (bytes : Bytes img) (n : ℕ) (h : 0 < cnt n l) (k : FileType) (kind-as : kind img n ≡ kindNo k)

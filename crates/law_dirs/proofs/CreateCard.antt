@@ -24,7 +24,8 @@ use Rattle.card_rules.specs.View.{dataAt, entries, entry, owns}
 use Rattle.card_rules.specs.Places.{Place, held, InUse}
 use Rattle.card_rules.specs.Whole.{Reached, Sound, Tree, Whole, Dir as DirRules}
 use Rattle.card_rules.proofs.Views.{owned-few}
-use Rattle.card_rules.proofs.Frames.{SameFile, size-is, kind-is, links-is, count-is, data-is, owns-is, entry-is, dir-is}
+use Rattle.card_rules.specs.Same.{SameFile}
+use Rattle.card_rules.proofs.Frames.{size-is, kind-is, links-is, count-is, data-is, owns-is, entry-is, dir-is}
 use Rattle.card_rules.proofs.Kept.{slots-few}
 use Rattle.card_rules.proofs.Isolation.{data-refl}
 use Rattle.file_grow.proofs.Taken.{nthFree}
@@ -35,7 +36,10 @@ use Rattle.law_files.proofs.Requests.{of-kind}
 use Rattle.law_files.proofs.Resized.{held-is, in-use-is}
 use Rattle.law_tree.proofs.TreeAdd.{NewFile, NewDir}
 use Rattle.law_files.proofs.Edits.{Edited, data-edited}
+use Rattle.law_dirs.specs.Entries.{NewRecord}
 use Rattle.law_dirs.proofs.Append.{Appended}
+use Rattle.law_dirs.proofs.EntryBytes.{entryIn-is}
+use Rattle.law_dirs.proofs.FreshRecord.{fresh-record, record-after}
 use Rattle.law_dirs.proofs.EntryCounts.{EntryMore, found-more}
 use Rattle.law_dirs.proofs.Tests.{same-inode}
 use Rattle.law_dirs.proofs.NameTests.{can-where}
@@ -66,6 +70,7 @@ pub record EmptyFile (out : List ℕ) (i : ℕ) : Type 0 where
   pub size-is : size out i ≡ 0
   pub links-is : links out i ≡ 1
   pub count-is : count out i ≡ 0
+  pub new-record : NewRecord out i (kind out i) 0 1 0
 
 -- inode i of kind k has come, under the name x in directory p; l are the inodes before
 pub record CreateDone (l img out : List ℕ) (p : ℕ) (x : List ℕ) (k i : ℕ) : Type 0 where
@@ -149,6 +154,8 @@ module _ {img : List ℕ} (w : Whole img) (bytes : Bytes img) (p : ℕ) (r : Rea
           size-is = size-is (same .slots .rec) ∙ file d .size-is;
           links-is = links-is (same .slots .rec) ∙ file d .links-is;
           count-is = count-is (same .slots .rec) ∙ file d .count-is;
+          new-record =
+              subst (λ (m : ℕ). NewRecord out i m 0 1 0) (sym (kind-is (same .slots .rec))) (record-after (file d .new-record) (same .slots .rec));
         }
 
     dir-out : k ≡ 2 → EmptyDir out i p
@@ -161,6 +168,9 @@ module _ {img : List ℕ} (w : Whole img) (bytes : Bytes img) (p : ℕ) (r : Rea
           links-is = links-is (same .slots .rec) ∙ g .links-is;
           dir = dir-is same inode (g .dir);
           up = entry-is same inode 1 (omega (arith, g .size-is)) ∙ g .up;
+          first-bytes = entryIn-is same inode 0 (omega (arith, g .size-is)) ∙ g .first-bytes;
+          second-bytes = entryIn-is same inode 1 (omega (arith, g .size-is)) ∙ g .second-bytes;
+          new-record = record-after (g .new-record) (same .slots .rec);
         }
 
     new-file : kind out i ≢ 2 → NewFile img out p i
@@ -253,7 +263,13 @@ module _ {img : List ℕ} (w : Whole img) (bytes : Bytes img) (p : ℕ) (r : Rea
   unfolding madeFile
   file-done d =
       create-by f e a (made-kind d)
-      (λ _. record { size-is = f .size-is; links-is = f .links-is; count-is = f .count-is })
+      (λ _.
+      record {
+        size-is = f .size-is;
+        links-is = f .links-is;
+        count-is = f .count-is;
+        new-record = subst (λ (m : ℕ). NewRecord mid i m 0 1 0) (sym (f .kind-is)) (fresh-record f);
+      })
       (λ q. absurd (d q)) (omega (arith, extra-file k d)) (ap owned (f .count-is) ∙ owned-few 0 (omega arith) ∙ sym (extra-file k d))
       (λ q. absurd (d q))
     where

@@ -9,7 +9,7 @@ use lib.ListN.{length}
 use Rattle.words.specs.Words.{byte, Bytes}
 use Rattle.words.specs.Sums.{cnt}
 use Rattle.card_layout.specs.Super.{blocks, unused}
-use Rattle.card_layout.specs.Inode.{size, kind, links, count, withLinks}
+use Rattle.card_layout.specs.Inode.{size, kind, links, count, direct, withLinks}
 use Rattle.card_layout.specs.Entry.{Name, entryOf}
 use Rattle.card_layout.specs.Slots.{seconds, owned}
 use Rattle.card_layout.specs.declared.inode.FileType.the-variants.{Dir}
@@ -30,8 +30,10 @@ use Rattle.law_files.proofs.Plan.{planned}
 use Rattle.law_files.proofs.Placed.{Placed, grow-placed}
 use Rattle.law_files.proofs.Edits.{Edited, edited-trans, edited-sound}
 use Rattle.law_dirs.proofs.Links.{ResizedWith, links-change, resized-edited}
-use Rattle.law_dirs.proofs.Entry.{EntryPut, entry-put, entryOf-length, entryOf-bytes, entryOf-number, entryOf-name}
+use Rattle.law_dirs.proofs.Entry.{EntryPut, entry-put, put-beside, entryOf-length, entryOf-bytes, entryOf-number, entryOf-name}
+use Rattle.law_dirs.specs.Entries.{entryIn, NewRecord}
 use Rattle.law_dirs.proofs.NewInode.{Fresh}
+use Rattle.law_dirs.proofs.FreshRecord.{fresh-record, record-after, direct-kept}
 use Rattle.law_dirs.proofs.Creating.{listed-here, number-fits}
 
 -- ---- the two names
@@ -68,6 +70,10 @@ pub record EmptyDir (out : List ℕ) (i p : ℕ) : Type 0 where
   -- "." with its own number, "..", and the other rules on its entries
   pub dir : DirRules out i
   pub up : entry out i 1 ≡ p
+  -- byte by byte
+  pub first-bytes : entryIn out i 0 ≡ entryOf i dot
+  pub second-bytes : entryIn out i 1 ≡ entryOf p dots
+  pub new-record : NewRecord out i 2 520 2 1
 
 module _ {l img mid : List ℕ} {i : ℕ} (f : Fresh l img mid i Dir 2) (p : ℕ) (p-fits : p < 2 ^ 32) (room : 1 ≤ unused mid) where
   abbrev long : List ℕ
@@ -160,15 +166,39 @@ module _ {l img mid : List ℕ} {i : ℕ} (f : Fresh l img mid i Dir 2) (p : ℕ
   unfolding seconds
   first-planned = rw (f .count-is)
 
+  one-long : count long i ≡ 1
+  one-long = omega (arith, grown .balanced .inode .shape .counted, grown .size-is)
+
   pub empty-block : dataAt out i 0 ≡ nthFree (blocks mid) mid 0
   empty-block =
       data-is (data-slots (one .sound) here (two .within-data)) 0 (omega (arith, one .count-is, one-long))
       ∙ data-is (data-slots long-sound here (one .within-data)) 0 (omega (arith, one-long))
       ∙ placed .places (at-data 0) (omega arith)
       ∙ first-planned
-    where
-      one-long : count long i ≡ 1
-      one-long = omega (arith, grown .balanced .inode .shape .counted, grown .size-is)
+
+  -- its record: the slots after the first are those of the new one
+  long-direct : (j : ℕ) → 1 ≤ j → j < 12 → direct long i j ≡ direct mid i j
+  long-direct j a b =
+      subst (λ (n : ℕ). direct (resized n i bareDir 520 mid) i j ≡ direct mid i j) (f .blocks-is)
+      (subst (λ (d : DiskINode). direct (resized (blocks mid) i d 520 mid) i j ≡ direct mid i j) (f .record-is)
+      (direct-kept mid (i ∷ l) (f .sound) (f .bytes) i here Dir (f .kind-is) 520 (omega arith)
+      (omega (arith, room, ap owned (f .count-is), owned-few 1 (omega arith), owned-few 0 (omega arith))) (f .count-is) refl j a b))
+
+  long-record : NewRecord long i 2 520 2 1
+  long-record =
+      let r = fresh-record f in
+      let shape = grown .balanced .inode .shape in
+      record {
+        size-is = grown .size-is;
+        kind-is = grown .kind-is ∙ f .kind-is;
+        links-is = grown .links-is;
+        count-is = one-long;
+        directs = λ j a b. long-direct j a b ∙ r .directs j (omega arith) b;
+        indirect-is = shape .single .to (omega (arith, one-long));
+        double-is = shape .twofold .to (omega (arith, one-long));
+        padding-is = grown .tail .padding-same ∙ r .padding-is;
+        device-is = grown .tail .device-same ∙ r .device-is;
+      }
 
   pub empty-edited : Edited mid out i
   empty-edited = edited-trans (resized-edited grown) (edited-trans (one .edited) (two .edited))
@@ -181,4 +211,10 @@ module _ {l img mid : List ℕ} {i : ℕ} (f : Fresh l img mid i Dir 2) (p : ℕ
         links-is = two .links-is ∙ one .links-is ∙ grown .links-is;
         dir = dir-out;
         up = two .entry-new ∙ entryOf-number p dots dots-name p-fits;
+        first-bytes =
+            put-beside two (omega (arith, one .count-is, one-long, one .size-is, grown .size-is)) 0 (λ e. omega arith)
+            (omega (arith, one .size-is, grown .size-is))
+            ∙ one .bytes-new;
+        second-bytes = two .bytes-new;
+        new-record = record-after (record-after long-record (one .rec)) (two .rec);
       }

@@ -22,7 +22,8 @@ use Rattle.card_rules.specs.Whole.{Sound, Tree, Dir as DirRules}
 use Rattle.card_rules.proofs.Views.{owned-few, owned-mono}
 use Rattle.card_rules.proofs.Owners.{inode-below}
 use Rattle.card_rules.proofs.Counting.{count-below}
-use Rattle.card_rules.proofs.Frames.{SameFile, size-is, kind-is, count-is, inode-room, file-trans}
+use Rattle.card_rules.specs.Same.{SameFile}
+use Rattle.card_rules.proofs.Frames.{size-is, kind-is, count-is, inode-room, file-trans}
 use Rattle.card_rules.proofs.Kept.{slots-few}
 use Rattle.card_rules.proofs.Isolation.{others-same}
 use Rattle.file_requests.specs.Requests.{longest, needs}
@@ -129,7 +130,7 @@ module _ {l img mid new : List ℕ} {i v : ℕ} {t : FileType} (s : Sound img l)
 
     pub out-more : Name x → EntryMore img out p i x
     out-more g =
-        more-before (old-same p h) (s .inode p h)
+        more-before (slots-few s p h) (old-same p h) (s .inode p h)
         (more-by a g (number-fits (f .sound) i here))
 
     pub out-takes : unused out + (needs (count img p) (size img p + 260) + owned (count new i) + 1) ≡ unused img

@@ -24,7 +24,8 @@ use Rattle.card_rules.proofs.Views.{seconds-none}
 use Rattle.card_rules.proofs.Cells.{held-owned}
 use Rattle.card_rules.proofs.Owners.{inode-below, held-below, not-zero, not-map}
 use Rattle.card_rules.proofs.Counting.{count-below, owns-total}
-use Rattle.card_rules.proofs.Frames.{SameBlock, SameFile, block-from, file-held}
+use Rattle.card_rules.specs.Same.{SameBlock, SameFile}
+use Rattle.card_rules.proofs.Frames.{block-from, file-held}
 use Rattle.card_rules.proofs.Kept.{Steady}
 use Rattle.card_rules.proofs.Isolation.{Within, Dropped, others-same, sound-drop}
 use Rattle.file_blocks.specs.Taking.{freeSingle, freeTwofold, freeIndirect, freeLevel, freeDouble, shrunk}

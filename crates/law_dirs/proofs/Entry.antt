@@ -20,8 +20,9 @@ use Rattle.card_layout.proofs.Names.{upto-is}
 use Rattle.card_layout.proofs.EntryLaws.{length-entry, entry-number, entry-name-byte, entry-after}
 use Rattle.card_rules.specs.View.{fileByte, fileBytes, entry, name}
 use Rattle.card_rules.specs.Whole.{Sound}
-use Rattle.card_rules.proofs.Views.{fileByte-at, length-fileBytes, getD-fileBytes, entry-cong, name-cong}
-use Rattle.card_rules.proofs.Frames.{SameRecord, size-is, kind-is, links-is, count-is, inode-room}
+use Rattle.card_rules.proofs.Views.{fileByte-at, length-fileBytes, getD-fileBytes, fileBytes-cong, entry-cong, name-cong}
+use Rattle.card_rules.specs.Same.{SameRecord}
+use Rattle.card_rules.proofs.Frames.{size-is, kind-is, links-is, count-is, inode-room}
 use Rattle.card_rules.proofs.Isolation.{WithinData, data-slots}
 use Rattle.check_names.proofs.Entries.{number-loaded, name-loaded}
 use Rattle.file_blocks.specs.Bytes.{readInto, filled}
@@ -29,6 +30,7 @@ use Rattle.file_blocks.proofs.Lengths.{length-readInto, length-filled}
 use Rattle.file_read.proofs.ReadBytes.{read-here}
 use Rattle.file_fill.proofs.Sound.{sound-readable}
 use Rattle.dir_entries.specs.Entries.{entryAt, entryPut}
+use Rattle.law_dirs.specs.Entries.{entryIn}
 use Rattle.law_files.proofs.Filling.{bytes-filled, filled-within, filled-sound, filled-comes, filled-stays}
 use Rattle.law_files.proofs.Edits.{Edited, data-edited}
 
@@ -108,6 +110,15 @@ pub record EntryPut (l img out : List ℕ) (n j : ℕ) (e : List ℕ) : Type 0 w
   pub name-new : name out n j ≡ uptoNul (drop 4 e)
   pub entry-kept : (i : ℕ) → i ≢ j → 260 * i + 260 ≤ size img n → entry out n i ≡ entry img n i
   pub name-kept : (i : ℕ) → i ≢ j → 260 * i + 260 ≤ size img n → name out n i ≡ name img n i
+  -- byte by byte
+  pub bytes-new : entryIn out n j ≡ e
+  pub bytes-kept : (o : ℕ) → o < 4096 * count img n → (260 * j ≤ o → o < 260 * j + 260 → ⊥) → fileByte out n o ≡ fileByte img n o
+
+-- another entry
+pub put-beside : {l img out e : List ℕ} {n j : ℕ} → EntryPut l img out n j e → size img n ≤ 4096 * count img n → (i : ℕ) → i ≢ j
+    → 260 * i + 260 ≤ size img n → entryIn out n i ≡ entryIn img n i
+put-beside {l} {img} {out} {e} {n} {j} p room i d b =
+    fileBytes-cong out img n n (260 * i) (260 * i) 260 (λ k q. p .bytes-kept (260 * i + k) (omega arith) (λ x y. d (omega arith)))
 
 module _ (img l : List ℕ) (s : Sound img l) (bytes : Bytes img) (n : ℕ) (h : 0 < cnt n l) (j : ℕ) (e : List ℕ) (long : length e ≡ 260) (src : Bytes e)
     (inside : 260 * j + 260 ≤ size img n) where
@@ -160,4 +171,6 @@ module _ (img l : List ℕ) (s : Sound img l) (bytes : Bytes img) (n : ℕ) (h :
             (λ k q.
             let t : 260 * i + 4 + k ≡ 260 * i + (4 + k) = omega arith in
             rw t (put-other i (4 + k) d b (omega arith)));
+        bytes-new = put-here;
+        bytes-kept = filled-stays s bytes n h false e (260 * j) (260 * j + 260) (omega arith) fits;
       }

@@ -8,17 +8,21 @@ use native.Mathlib.Omega.{arith}
 use native.Mathlib.Decide.{decLt, ℕ-discrete}
 use Rattle.words.specs.Sums.{δ, sumTo}
 use Rattle.words.proofs.Sums.{sumTo-suc, sumTo-cong, sumTo-point}
-use Rattle.card_layout.specs.Inode.{size, kind}
+use Rattle.card_layout.specs.Inode.{size, kind, count}
 use Rattle.card_layout.specs.Entry.{Name, entryOf}
 use Rattle.card_rules.specs.View.{entries, entry, name, kids, kid, timesNamed}
 use Rattle.card_rules.specs.Whole.{Inode, Dir}
 use Rattle.card_rules.proofs.Views.{kids-of-dir}
-use Rattle.card_rules.proofs.Frames.{SameFile, size-is, kind-is, entry-is, name-is}
+use Rattle.card_rules.specs.Same.{SameFile}
+use Rattle.card_rules.proofs.Frames.{size-is, kind-is, entry-is, name-is}
 use Rattle.dir_entries.specs.Entries.{whereIs}
 use Rattle.dir_entries.proofs.Lookup.{where-hit, where-least, where-is, where-none, where-not}
 use Rattle.law_dirs.proofs.Entry.{EntryPut, entryOf-number, entryOf-name}
 use Rattle.law_dirs.proofs.Append.{Appended}
 use Rattle.law_dirs.proofs.Remove.{Removed}
+use Rattle.law_dirs.specs.Entries.{OneMore, OneLess, Lengthened}
+use Rattle.law_dirs.proofs.EntryBytes.{one-more, one-more-before, one-more-after, one-less-before, one-less-after}
+use Rattle.law_dirs.proofs.EntryBytes.{lengthened-more, lengthened-less, lengthened-before, lengthened-after}
 use Rattle.law_tree.proofs.TreeStep.{Parent}
 
 -- ---- two numbers
@@ -43,6 +47,8 @@ pub record EntryMore (img out : List ℕ) (p c : ℕ) (x : List ℕ) : Type 0 wh
   pub name-kept : (i : ℕ) → i < entries img p → name out p i ≡ name img p i
   pub entry-new : entry out p (entries img p) ≡ c
   pub name-new : name out p (entries img p) ≡ x
+  pub listing : OneMore img out p c x
+  pub parent : Lengthened img out p
 
 -- entry j is gone, and the last one stands in its place
 pub record EntryLess (img out : List ℕ) (p j : ℕ) : Type 0 where
@@ -52,6 +58,8 @@ pub record EntryLess (img out : List ℕ) (p j : ℕ) : Type 0 where
   pub name-kept : (i : ℕ) → i < entries out p → i ≢ j → name out p i ≡ name img p i
   pub entry-moved : j < entries out p → entry out p j ≡ entry img p (entries img p - 1)
   pub name-moved : j < entries out p → name out p j ≡ name img p (entries img p - 1)
+  pub listing : OneLess img out p j
+  pub parent : Lengthened img out p
 
 -- entry j has the name x, and its number as before
 pub record EntryNamed (img out : List ℕ) (p j : ℕ) (x : List ℕ) : Type 0 where
@@ -72,6 +80,8 @@ more-by {img} {out} {p} {v} {c} {x} a g q =
       name-kept = a .name-kept;
       entry-new = a .entry-new ∙ entryOf-number c x g q;
       name-new = a .name-new ∙ entryOf-name c x g;
+      listing = one-more a;
+      parent = lengthened-more a;
     }
 
 pub less-by : {img out : List ℕ} {p v j : ℕ} → Removed img out p v j → EntryLess img out p j
@@ -83,6 +93,8 @@ less-by a =
       name-kept = a .name-kept;
       entry-moved = a .entry-moved;
       name-moved = a .name-moved;
+      listing = a .listing;
+      parent = lengthened-less a;
     }
 
 pub named-by : {l img out : List ℕ} {p j c : ℕ} {x : List ℕ} → EntryPut l img out p j (entryOf c x) → Name x → c < 2 ^ 32 → entry img p j ≡ c
@@ -103,8 +115,8 @@ named-by {l} {img} {out} {p} {j} {c} {x} a g q e =
 -- ---- with changes elsewhere before and after
 
 module _ {img mid out : List ℕ} {p : ℕ} where
-  pub more-before : {c : ℕ} {x : List ℕ} → SameFile img mid p → Inode img p → EntryMore mid out p c x → EntryMore img out p c x
-  more-before {c} {x} s i a =
+  pub more-before : {c : ℕ} {x : List ℕ} → count img p < 1049612 → SameFile img mid p → Inode img p → EntryMore mid out p c x → EntryMore img out p c x
+  more-before {c} {x} few s i a =
       let n : entries mid p ≡ entries img p = ap (λ (z : ℕ). z / 260) (size-is (s .slots .rec)) in
       record {
         kind-is = a .kind-is ∙ kind-is (s .slots .rec);
@@ -113,10 +125,12 @@ module _ {img mid out : List ℕ} {p : ℕ} where
         name-kept = λ k b. a .name-kept k (rw n b) ∙ name-is s i k b;
         entry-new = subst (λ (z : ℕ). entry out p z ≡ c) n (a .entry-new);
         name-new = subst (λ (z : ℕ). name out p z ≡ x) n (a .name-new);
+        listing = one-more-before s i (a .listing);
+        parent = lengthened-before few s (a .parent);
       }
 
-  pub more-after : {c : ℕ} {x : List ℕ} → EntryMore img mid p c x → SameFile mid out p → Inode mid p → EntryMore img out p c x
-  more-after a s i =
+  pub more-after : {c : ℕ} {x : List ℕ} → count mid p < 1049612 → EntryMore img mid p c x → SameFile mid out p → Inode mid p → EntryMore img out p c x
+  more-after few a s i =
       record {
         kind-is = kind-is (s .slots .rec) ∙ a .kind-is;
         size-is = size-is (s .slots .rec) ∙ a .size-is;
@@ -124,11 +138,13 @@ module _ {img mid out : List ℕ} {p : ℕ} where
         name-kept = λ k b. name-is s i k (omega (arith, a .size-is)) ∙ a .name-kept k b;
         entry-new = entry-is s i (entries img p) (omega (arith, a .size-is)) ∙ a .entry-new;
         name-new = name-is s i (entries img p) (omega (arith, a .size-is)) ∙ a .name-new;
+        listing = one-more-after (a .listing) s i;
+        parent = lengthened-after few (a .parent) s;
       }
 
   module _ {j : ℕ} where
-    pub less-before : SameFile img mid p → Inode img p → EntryLess mid out p j → EntryLess img out p j
-    less-before s i a =
+    pub less-before : count img p < 1049612 → SameFile img mid p → Inode img p → EntryLess mid out p j → EntryLess img out p j
+    less-before few s i a =
         let z = size-is (s .slots .rec) in
         let n : entries mid p ≡ entries img p = ap (λ (y : ℕ). y / 260) z in
         record {
@@ -144,10 +160,12 @@ module _ {img mid out : List ℕ} {p : ℕ} where
               a .name-moved b
               ∙ ap (λ (y : ℕ). name mid p (y - 1)) n
               ∙ name-is s i (entries img p - 1) (omega (arith, a .size-is, z));
+          listing = one-less-before s i (a .listing);
+          parent = lengthened-before few s (a .parent);
         }
 
-    pub less-after : EntryLess img mid p j → SameFile mid out p → Inode mid p → EntryLess img out p j
-    less-after a s i =
+    pub less-after : count mid p < 1049612 → EntryLess img mid p j → SameFile mid out p → Inode mid p → EntryLess img out p j
+    less-after few a s i =
         let z = size-is (s .slots .rec) in
         let was : (k : ℕ) → k < entries out p → k < entries mid p = λ k b. omega arith in
         record {
@@ -157,6 +175,8 @@ module _ {img mid out : List ℕ} {p : ℕ} where
           name-kept = λ k b d. name-is s i k (was k b) ∙ a .name-kept k (was k b) d;
           entry-moved = λ b. entry-is s i j (was j b) ∙ a .entry-moved (was j b);
           name-moved = λ b. name-is s i j (was j b) ∙ a .name-moved (was j b);
+          listing = one-less-after (a .listing) s i;
+          parent = lengthened-after few (a .parent) s;
         }
 
 -- ---- its children, by counts

@@ -1,5 +1,5 @@
 -- The bytes that format writes, on a slice of any bytes: the root's record with its two entries, and the map. Assumes nothing.
-use mathlib.Core.Path.{_≡_, refl, ap, _∙_}
+use mathlib.Core.Path.{_≡_, refl, sym, ap, _∙_}
 use mathlib.Core.List.{List}
 use mathlib.Core.Logic.{_≢_}
 use Prim.Native.Nat.{ℕ, zero, suc, _+_, _*_, _/_, _%_, _^_, _≤_, _<_}
@@ -7,8 +7,10 @@ use native.Mathlib.Omega.{arith}
 use native.Mathlib.Decide.{decLt, ℕ-discrete}
 use native.Mathlib.Nat.{zero-div}
 use lib.Dec.{T, ltb, ltb→lt, lit≤}
-use lib.ListN.{length, List·getD-eq-default}
-use Rattle.words.specs.Words.{byte, num, Apart, Bytes}
+use lib.ListN.{length, getD-replicate, List·getD-eq-default}
+use lib.Seq.{ext-getD}
+use Rattle.words.specs.Words.{byte, num, Bytes}
+use Rattle.words.specs.Inner.{Apart}
 use Rattle.words.specs.Runs.{copied, zeroed, turns}
 use Rattle.words.proofs.Numbers.{num-frame, num-moved}
 use Rattle.words.proofs.Runs.{
@@ -22,10 +24,11 @@ use Rattle.words.proofs.Runs.{
   bytes-zeroed,
   turns-keep,
 }
-use Rattle.card_layout.specs.Inode.{encoded, newInode, withSize, withLinks, withBlocks, withDirect, direct, numberAt, Fitting}
+use Rattle.card_layout.specs.Inode.{encoded, newInode, withSize, withLinks, withBlocks, withDirect, direct, numberAt, blockId, Fitting}
 use Rattle.card_layout.specs.Entry.{Name, entryOf}
 use Rattle.card_layout.specs.declared.inode.FileType.the-variants.{Dir}
 use Rattle.card_layout.specs.declared.inode.DiskINode.{DiskINode}
+use Rattle.card_layout.specs.declared.BlockId.{BlockId}
 use Rattle.card_layout.proofs.InodeLaws.{
   newInode-fits,
   length-encoded,
@@ -35,6 +38,8 @@ use Rattle.card_layout.proofs.InodeLaws.{
   count-encoded,
   indirect-encoded,
   double-encoded,
+  padding-encoded,
+  device-encoded,
   direct-encoded,
   byte-encoded-off,
   bytes-encoded,
@@ -48,7 +53,8 @@ use Rattle.card_rules.proofs.Views.{data-direct, fileByte-at, entry-at, name-at
 use Rattle.card_rules.proofs.Bare.{Bare}
 use Rattle.card_rules.proofs.Small.{eachBelow, each-below}
 use Rattle.dir_entries.specs.Names.{dot, dots}
-use Rattle.law_dirs.proofs.Entry.{entryOf-bytes}
+use Rattle.law_dirs.specs.Entries.{entryIn, NewRecord}
+use Rattle.law_dirs.proofs.Entry.{entryOf-bytes, entryOf-length}
 
 -- ---- lists that are written out
 
@@ -197,6 +203,39 @@ module _ (x : List ℕ) (long : 65536 ≤ length x) where
         dot = name-there (rooted x) 1 0 1 dot dot-name dot-byte;
         dots = name-there (rooted x) 1 1 1 dots dots-name dots-byte;
       }
+
+  pub rooted-record : NewRecord (rooted x) 1 2 520 2 1
+  rooted-record =
+      record {
+        size-is = rooted-bare .bytes;
+        kind-is = rooted-bare .dir;
+        links-is = rooted-bare .linked;
+        count-is = rooted-bare .counted;
+        directs = λ j l h.
+            field 4 (4108 + 4 * j) (omega arith) ∙ direct-encoded x 1 rootAt3 (omega arith) root-fits j h ∙ past j l h;
+        indirect-is = rooted-bare .no-indirect;
+        double-is = rooted-bare .no-double;
+        padding-is = field 4 4164 (omega arith) ∙ padding-encoded x 1 rootAt3 (omega arith) root-fits;
+        device-is = field 8 4168 (omega arith) ∙ device-encoded x 1 rootAt3 (omega arith) root-fits;
+      }
+    where
+      past : (j : ℕ) → 1 ≤ j → j < 12 → numberAt (rootAt3 .direct) j ≡ 0
+      past zero l h = absurd (omega arith)
+      past (suc j) l h = ap (λ (b : BlockId). b .0) (getD-replicate 12 (suc j) (blockId 0) (blockId 0) h)
+
+  -- the 260 bytes of an entry
+  whole-entry : (k : ℕ) (y : List ℕ) → Name y → ((i : ℕ) → i < 260 → fileByte (rooted x) 1 (260 * k + i) ≡ byte (entryOf 1 y) i)
+      → entryIn (rooted x) 1 k ≡ entryOf 1 y
+  whole-entry k y g h =
+      let e = length-fileBytes (rooted x) 1 (260 * k) 260 in
+      ext-getD 0 (entryIn (rooted x) 1 k) (entryOf 1 y) (e ∙ sym (entryOf-length 1 y g))
+      (λ i l. let b : i < 260 = omega (arith, e) in getD-fileBytes (rooted x) 1 (260 * k) 260 i b ∙ h i b)
+
+  pub rooted-self : entryIn (rooted x) 1 0 ≡ entryOf 1 dot
+  rooted-self = whole-entry 0 dot dot-name dot-byte
+
+  pub rooted-up : entryIn (rooted x) 1 1 ≡ entryOf 1 dots
+  rooted-up = whole-entry 1 dots dots-name dots-byte
 
 -- ---- the map, written on a card x
 

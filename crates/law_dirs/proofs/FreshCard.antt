@@ -7,24 +7,29 @@ use Prim.Native.Nat.{ℕ, zero, suc, _+_, _-_, _*_, _/_, _≤_, _<_}
 use native.Mathlib.Omega.{arith}
 use native.Mathlib.Decide.{decLt}
 use borrow.Author.Tests.{lt-ltb, le-ltb}
-use lib.ListN.{length}
-use Rattle.words.specs.Words.{byte, num, Apart, Bytes}
+use lib.ListN.{length, drop}
+use lib.Seq.{getD-take, getD-drop}
+use Rattle.words.specs.Words.{byte, num, Bytes}
+use Rattle.words.specs.Inner.{Apart}
 use Rattle.words.specs.Runs.{zeroed, turns}
 use Rattle.words.specs.Sums.{δ}
 use Rattle.words.proofs.Numbers.{num-frame}
 use Rattle.words.proofs.Sums.{δ-other, sumTo-none, sumTo-each, sumTo-more}
 use Rattle.card_layout.specs.Sizes.{fewest, most, mapsFor, firstAfterMap, blocksFor}
 use Rattle.card_layout.specs.Super.{rightMagic, magic, blocks, unused, maps, superPut}
+use Rattle.card_layout.specs.Entry.{entryOf}
 use Rattle.card_layout.specs.declared.superblock.SuperBlock.{SuperBlock}
-use Rattle.card_layout.proofs.SuperLaws.{SuperFits, length-super, magic-super, blocks-super, unused-super, maps-super, byte-super-off, bytes-super}
+use Rattle.card_layout.proofs.SuperLaws.{SuperFits, length-super, magic-super, blocks-super, unused-super, maps-super, info-super, byte-super-off, bytes-super}
 use Rattle.card_map.specs.Bits.{mapByte, mapBit, setBit, freeBits}
 use Rattle.card_map.proofs.Map.{bit-is}
 use Rattle.card_rules.specs.View.{uses}
 use Rattle.card_rules.specs.Whole.{Inode, Sound, Whole}
 use Rattle.card_rules.proofs.Bare.{Bare, one, listed-one, bare-inode, bare-tree, bare-uses}
+use Rattle.dir_entries.specs.Names.{dot, dots}
 use Rattle.dir_answers.specs.Answers.{actedNo}
 use Rattle.dir_format.specs.Format.{formatAnswer, infoText, freshMap, formatted, formatCard}
 use Rattle.dir_answers.specs.declared.Acted.the-variants.{Done, InvalidParam}
+use Rattle.law_dirs.specs.Entries.{entryIn, NewRecord}
 use Rattle.law_dirs.proofs.FreshBytes.{
   bytes-tested,
   rooted,
@@ -33,6 +38,9 @@ use Rattle.law_dirs.proofs.FreshBytes.{
   byte-rooted-off,
   num-rooted,
   rooted-bare,
+  rooted-record,
+  rooted-self,
+  rooted-up,
   Mapped,
   mapped-is,
   bytes-mapped,
@@ -47,6 +55,11 @@ pub record Fresh (out : List ℕ) (nb : ℕ) : Type 0 where
   pub one-map : maps out ≡ 1
   -- size 520, kind 2, 2 links, 1 block, which is block 3; "." and "..", both with the number 1
   pub bare : Bare out
+  -- the text, the root's whole record, and all bytes of its entries
+  pub text : (k : ℕ) → k < 32 → byte out (12 + k) ≡ byte infoText k
+  pub record-is : NewRecord out 1 2 520 2 1
+  pub self : entryIn out 1 0 ≡ entryOf 1 dot
+  pub up : entryIn out 1 1 ≡ entryOf 1 dots
   pub free : (b : ℕ) → 4 ≤ b → b < nb → mapBit out b ≡ 1
   pub taken : (b : ℕ) → b < 32768 → (4 ≤ b → b < nb → ⊥) → mapBit out b ≡ 0
 
@@ -150,6 +163,14 @@ module _ (img : List ℕ) (nb : ℕ) (few : fewest ≤ nb) (many : nb ≤ most) 
       bit-is (mapped nb img) (rooted (mapped nb img)) b
       (byte-rooted-off (mapped nb img) mapped-long (mapByte b) (omega arith) (omega arith))
 
+  -- a byte of the text
+  info : (k : ℕ) → k < 32 → byte (superPut img (superOf nb)) (12 + k) ≡ byte infoText k
+  info k l =
+      let y = superPut img (superOf nb) in
+      sym (getD-drop 12 y k 0)
+      ∙ sym (getD-take 32 (drop 12 y) k 0 l)
+      ∙ ap (λ (z : List ℕ). byte z k) (info-super img (superOf nb) (omega arith) (super-fits nb many))
+
   made-fresh : Fresh (rooted (mapped nb img)) nb
   made-fresh =
       record {
@@ -158,6 +179,11 @@ module _ (img : List ℕ) (nb : ℕ) (few : fewest ≤ nb) (many : nb ≤ most) 
         unused-are = title 4 8 (omega arith) ∙ unused-super img (superOf nb) (omega arith) (super-fits nb many);
         one-map = title 4 44 (omega arith) ∙ maps-super img (superOf nb) (omega arith) (super-fits nb many);
         bare = rooted-bare (mapped nb img) mapped-long;
+        text = λ k l.
+            byte-rooted-off (mapped nb img) mapped-long (12 + k) (omega arith) (omega arith) ∙ map-is .off (12 + k) (omega arith) ∙ info k l;
+        record-is = rooted-record (mapped nb img) mapped-long;
+        self = rooted-self (mapped nb img) mapped-long;
+        up = rooted-up (mapped nb img) mapped-long;
         free = λ b l m. bit b (omega arith) ∙ map-is .free b l (omega arith);
         taken = λ b l h. bit b l ∙ map-is .taken b l (λ p q. h p (omega arith));
       }

@@ -19,7 +19,8 @@ use Rattle.card_layout.proofs.InodeLaws.{inodeAt}
 use Rattle.card_rules.specs.View.{entries, entry, fileByte}
 use Rattle.card_rules.specs.Whole.{Reached, Sound, Tree, Whole, Dir as DirRules}
 use Rattle.card_rules.specs.Places.{Place, held, InUse}
-use Rattle.card_rules.proofs.Frames.{SameFile, size-is, kind-is, links-is, count-is, fileByte-is, file-refl, file-trans}
+use Rattle.card_rules.specs.Same.{SameFile}
+use Rattle.card_rules.proofs.Frames.{size-is, kind-is, links-is, count-is, fileByte-is, file-refl, file-trans}
 use Rattle.card_rules.proofs.Kept.{slots-few}
 use Rattle.card_rules.proofs.Isolation.{others-same}
 use Rattle.file_requests.specs.Requests.{needs}
@@ -32,6 +33,8 @@ use Rattle.law_files.proofs.Requests.{OfKind, of-kind, kinds}
 use Rattle.law_files.proofs.Files.{takes-exactly}
 use Rattle.law_tree.proofs.TreeAdd.{tree-add-name}
 use Rattle.law_files.proofs.Edits.{edited-sound}
+use Rattle.law_dirs.specs.Entries.{Relinked as ButLinks}
+use Rattle.law_dirs.proofs.EntryBytes.{relinked-record, relinked-trans}
 use Rattle.law_dirs.proofs.Links.{Relinked, links-only}
 use Rattle.law_dirs.proofs.Append.{Appended}
 use Rattle.law_dirs.proofs.Remove.{inodeAt-same}
@@ -52,6 +55,7 @@ pub record LinkDone (l img out : List ℕ) (p : ℕ) (x : List ℕ) (c : ℕ) : 
   pub kind-is : kind out c ≡ kind img c
   pub size-is : size out c ≡ size img c
   pub count-is : count out c ≡ count img c
+  pub record-kept : ButLinks img out c
   pub places : (q : Place) → InUse img c q → held out c q ≡ held img c q
   pub kept : (o : ℕ) → o < 4096 * count img c → fileByte out c o ≡ fileByte img c o
   -- the parent: its old entries, and the new one after them, where the name is found
@@ -120,7 +124,7 @@ module _ {img : List ℕ} (w : Whole img) (bytes : Bytes img) (p : ℕ) (r : Rea
 
     more-out : EntryMore img out p c x
     more-out =
-        more-after (more-by a (can .name .stored) (number-fits (w .sound) c c-in)) p-same (mid-sound .inode p p-in)
+        more-after (slots-few mid-sound p p-in) (more-by a (can .name .stored) (number-fits (w .sound) c c-in)) p-same (mid-sound .inode p p-in)
 
     others-out : (m : ℕ) → 0 < cnt m (w .inodes) → m ≢ p → m ≢ c → SameFile img out m
     others-out m h d e =
@@ -162,6 +166,7 @@ module _ {img : List ℕ} (w : Whole img) (bytes : Bytes img) (p : ℕ) (r : Rea
           kind-is = kind-out;
           size-is = b .size-is ∙ size-is k;
           count-is = b .count-is ∙ count-is k;
+          record-kept = relinked-trans (relinked-record k) (b .rest);
           places = λ q v.
               b .places q (in-use-is mid img c (sym (count-is k)) q v) ∙ held-is (c-same .slots) (slots-few (w .sound) c c-in) q v;
           kept = λ y q. b .kept y (rw (count-is k) q) ∙ fileByte-is c-same y q;

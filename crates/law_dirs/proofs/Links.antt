@@ -8,7 +8,9 @@ use native.Mathlib.Omega.{arith}
 use native.Mathlib.Decide.{decLt}
 use borrow.Author.Tests.{lt-ltb, le-ltb}
 use lib.Dec.{ltb}
-use Rattle.words.specs.Words.{pick, byte, num, Apart, Bytes}
+use lib.ListN.{length}
+use Rattle.words.specs.Words.{pick, byte, num, Bytes}
+use Rattle.words.specs.Inner.{Apart}
 use Rattle.words.specs.Sums.{δ, sumTo, cnt}
 use Rattle.words.proofs.Numbers.{length-put, byte-out, num-out, num-same, bytes-put, put-put, put-num}
 use Rattle.words.proofs.Sums.{sumTo-cong}
@@ -25,7 +27,8 @@ use Rattle.card_rules.specs.Places.{Place, at-inode, at-indirect, at-double, at
 use Rattle.card_rules.proofs.Views.{data-direct, data-indirect, data-double, seconds-many, seconds-reach, ranges, owns-parts, fileByte-at}
 use Rattle.card_rules.proofs.Cells.{rank, held-owned}
 use Rattle.card_rules.proofs.Owners.{owns-uses, inode-below, places-differ, not-zero, not-map}
-use Rattle.card_rules.proofs.Frames.{SameBlock, SameFile, block-from, block-slot, block-sym, block-trans, seconds-fit, inode-room}
+use Rattle.card_rules.specs.Same.{SameBlock, SameFile}
+use Rattle.card_rules.proofs.Frames.{block-from, block-slot, block-sym, block-trans, seconds-fit, inode-room}
 use Rattle.card_rules.proofs.Kept.{SameSuper, SameMap, super-block, map-blocks, bit-of, slots-few, magic-is, blocks-is, unused-is, maps-is}
 use Rattle.card_rules.proofs.Isolation.{Within, Balanced, others-same, sound-one}
 use Rattle.file_requests.specs.Resizing.{cleaned, lengthened, resized}
@@ -39,6 +42,8 @@ use Rattle.law_files.proofs.GrownCard.{grown-changed}
 use Rattle.law_files.proofs.Shortened.{shorter-changed, same-changed}
 use Rattle.law_files.proofs.Resized.{Resized, in-use-is, resized-up, resized-down}
 use Rattle.law_files.proofs.Edits.{Edited, edited-trans}
+use Rattle.law_dirs.specs.Entries.{Relinked as ButLinks}
+use Rattle.law_dirs.proofs.RecordBytes.{SameTail, tail-trans, tail-record, tail-lengthened, tail-shorter, tail-size, record-cleaned}
 use Rattle.law_dirs.proofs.LinkBytes.{relinked, encoded-links, lengthened-links, shorter-links, size-links}
 
 -- ---- the two bytes of links
@@ -195,6 +200,7 @@ pub record Relinked (l img out : List ℕ) (n v : ℕ) : Type 0 where
   pub count-is : count out n ≡ count img n
   pub places : (p : Place) → InUse img n p → held out n p ≡ held img n p
   pub kept : (o : ℕ) → o < 4096 * count img n → fileByte out n o ≡ fileByte img n o
+  pub rest : ButLinks img out n
 
 module _ (img l : List ℕ) (s : Sound img l) (bytes : Bytes img) (n : ℕ) (h : 0 < cnt n l) (v : ℕ) (low : v < 65536) where
   pub links-put : Relinked l img (relinked img n v) n v
@@ -212,6 +218,11 @@ module _ (img l : List ℕ) (s : Sound img l) (bytes : Bytes img) (n : ℕ) (h :
         count-is = count-far img l s n h v;
         places = held-far img l s n h v;
         kept = file-far img l s n h v;
+        rest =
+            record {
+              kept = λ k q d.
+                  byte-far img l s n h v (4096 * n + k) (⊎-elim (λ (a : k < 6). λ x y. omega arith) (λ (a : 8 ≤ k). λ x y. omega arith) d);
+            };
       }
 
   pub links-only : (k : FileType) → kind img n ≡ kindNo k → Relinked l img (encoded img n (withLinks (inodeAt img n k) v)) n v
@@ -287,13 +298,14 @@ pub record ResizedWith (img out : List ℕ) (n len v : ℕ) : Type 0 where
   pub zeros : count img n < blocksFor len → (o : ℕ) → size img n ≤ o → o < len → fileByte out n o ≡ 0
   -- "bytes appear as the block holds them"
   pub shown : blocksFor len ≤ count img n → (o : ℕ) → o < 4096 * blocksFor len → fileByte out n o ≡ fileByte img n o
+  pub tail : SameTail img out n
 
 pub resized-edited : {img out : List ℕ} {n len v : ℕ} → ResizedWith img out n len v → Edited img out n
 resized-edited r = record { within = r .within; balanced = r .balanced; bytes = r .bytes; kind-is = r .kind-is }
 
 module _ (img l : List ℕ) (s : Sound img l) (bytes : Bytes img) (n : ℕ) (h : 0 < cnt n l) (v : ℕ) (low : v < 65536) where
-  with-links : {out : List ℕ} {len : ℕ} → Resized (relinked img n v) out n len → ResizedWith img out n len v
-  with-links {out} {len} r =
+  with-links : {out : List ℕ} {len : ℕ} → Resized (relinked img n v) out n len → SameTail img out n → ResizedWith img out n len v
+  with-links {out} {len} r tail =
       let t = links-put img l s bytes n h v low in
       let e : Edited img out n =
       edited-trans (edited-far img l s n h v bytes) (record { within = r .within; balanced = r .balanced; bytes = r .bytes; kind-is = r .kind-is }) in
@@ -308,7 +320,12 @@ module _ (img l : List ℕ) (s : Sound img l) (bytes : Bytes img) (n : ℕ) (h :
         kept = λ o a b. r .kept o (rw (t .size-is) a) b ∙ t .kept o (omega (arith, inode-room (s .inode n h)));
         zeros = λ u o a b. r .zeros (rw (t .count-is) u) o (rw (t .size-is) a) b;
         shown = λ u o a. r .shown (rw (t .count-is) u) o a ∙ t .kept o (omega arith);
+        tail = tail;
       }
+
+  -- its record is on the card
+  on-card : {out : List ℕ} {len : ℕ} → Changed img out n len → 4096 * n + 80 ≤ length out
+  on-card c = omega (arith, inode-below img l s n h, s .sized .long, c .balanced .steady .length-same)
 
   module _ (k : FileType) (e : kind img n ≡ kindNo k) (len : ℕ) (short : len ≤ longest) (room : needs (count img n) len ≤ unused img) where
     up : count img n < blocksFor len → ResizedWith img (resized (blocks img) n (withLinks (inodeAt img n k) v) len img) n len v
@@ -330,7 +347,10 @@ module _ (img l : List ℕ) (s : Sound img l) (bytes : Bytes img) (n : ℕ) (h :
         )
         (with-links
         (subst (λ (x : List ℕ). Resized (relinked img n v) x n len) same
-        (resized-up (t .sound) h (rw (t .count-is) u) (changed-links s bytes h v low c))))
+        (resized-up (t .sound) h (rw (t .count-is) u) (changed-links s bytes h v low c)))
+        (subst (λ (x : List ℕ). SameTail img x n) same
+        (tail-trans (tail-lengthened img bytes n k v len (blocks img) (on-card c))
+        (tail-record (record-cleaned (t .sound) h (rw (t .count-is) u) (changed-links s bytes h v low c))))))
 
     not-up : blocksFor len ≤ count img n → Dec (blocksFor len < count img n)
         → ResizedWith img (resized (blocks img) n (withLinks (inodeAt img n k) v) len img) n len v
@@ -343,7 +363,8 @@ module _ (img l : List ℕ) (s : Sound img l) (bytes : Bytes img) (n : ℕ) (h :
           shorter-links (blocks img) n (inodeAt img n k) v len img,
         )
         (with-links
-        (resized-down (t .sound) h (rw (t .count-is) d) (changed-links s bytes h v low (shorter-changed img l s bytes n h len (omega arith) k e u))))
+        (resized-down (t .sound) h (rw (t .count-is) d) (changed-links s bytes h v low (shorter-changed img l s bytes n h len (omega arith) k e u)))
+        (tail-shorter img bytes n k v len (blocks img) (on-card (shorter-changed img l s bytes n h len (omega arith) k e u))))
     not-up d (no u) =
         let t = links-put img l s bytes n h v low in
         rw (
@@ -353,7 +374,8 @@ module _ (img l : List ℕ) (s : Sound img l) (bytes : Bytes img) (n : ℕ) (h :
         )
         (with-links
         (resized-down (t .sound) h (rw (t .count-is) d)
-        (changed-links s bytes h v low (same-changed img l s bytes n h len (omega arith) k e (omega arith)))))
+        (changed-links s bytes h v low (same-changed img l s bytes n h len (omega arith) k e (omega arith))))
+        (tail-size img bytes n k v len (omega (arith, inode-below img l s n h, s .sized .long))))
 
     pub links-change : ResizedWith img (resized (blocks img) n (withLinks (inodeAt img n k) v) len img) n len v
     links-change = go (decLt (count img n) (blocksFor len))

@@ -4,21 +4,22 @@
 use mathlib.Core.Path.{_≡_, refl, sym, ap, _∙_, subst}
 use mathlib.Core.List.{List}
 use mathlib.Core.Logic.{_≢_}
-use Prim.Native.Nat.{ℕ, _+_, _-_, _*_, _<_, _^_}
+use Prim.Native.Nat.{ℕ, _+_, _-_, _*_, _≤_, _<_, _^_}
 use native.Mathlib.Omega.{arith}
 use native.Mathlib.Decide.{ℕ-discrete, decLt}
 use Rattle.words.specs.Words.{Bytes}
 use Rattle.words.specs.Sums.{cnt}
 use Rattle.words.proofs.Numbers.{num-lt}
 use Rattle.card_layout.specs.Super.{blocks}
-use Rattle.card_layout.specs.Inode.{kind, links}
+use Rattle.card_layout.specs.Inode.{kind, links, count}
 use Rattle.card_layout.specs.Entry.{entryOf}
-use Rattle.card_rules.specs.View.{entries, entry, name}
+use Rattle.card_rules.specs.View.{fileByte, entries, entry, name}
 use Rattle.card_rules.specs.Whole.{Reached, Dir, Sound, Tree, Whole}
 use Rattle.card_rules.proofs.Owners.{inode-below}
 use Rattle.card_rules.proofs.Tree.{reached-listed}
 use Rattle.card_rules.proofs.Kept.{Steady, slots-few}
-use Rattle.card_rules.proofs.Frames.{SameSlots, SameFile, size-is, links-is, file-trans}
+use Rattle.card_rules.specs.Same.{SameSlots, SameFile}
+use Rattle.card_rules.proofs.Frames.{size-is, links-is, file-trans}
 use Rattle.card_rules.proofs.Isolation.{data-slots, others-same}
 use Rattle.dir_entries.specs.Entries.{whereIs, entryPut}
 use Rattle.dir_entries.proofs.Lookup.{where-hit, where-none, where-not}
@@ -26,6 +27,7 @@ use Rattle.dir_answers.specs.Answers.{namedBy}
 use Rattle.dir_move.specs.Move.{upPut, moveAnswer, moveCard}
 use Rattle.dir_answers.specs.declared.Acted.the-variants.{Done}
 use Rattle.law_files.proofs.Edits.{steady-trans}
+use Rattle.law_dirs.specs.Entries.{entryIn}
 use Rattle.law_dirs.proofs.Entry.{EntryPut, entry-put, entryOf-length, entryOf-bytes}
 use Rattle.law_dirs.proofs.EntryCounts.{
   EntryMore,
@@ -58,6 +60,8 @@ pub record MovedHere (img out : List ℕ) (p : ℕ) (old : List ℕ) (j : ℕ) (
   pub renamed : EntryNamed img out p j new
   pub slots : SameSlots img out p
   pub links-same : links out p ≡ links img p
+  pub bytes-new : entryIn out p j ≡ entryOf (entry img p j) new
+  pub bytes-kept : (o : ℕ) → o < 4096 * count img p → (260 * j ≤ o → o < 260 * j + 260 → ⊥) → fileByte out p o ≡ fileByte img p o
   pub at : whereIs out p new ≡ j
   pub gone : whereIs out p old ≡ entries out p
 
@@ -195,6 +199,8 @@ module _ {img : List ℕ} (w : Whole img) (bytes : Bytes img) (p t : ℕ) (old n
               renamed = renaming;
               slots = data-slots (w .sound) p-in (put .within-data);
               links-same = put .links-is;
+              bytes-new = put .bytes-new;
+              bytes-kept = put .bytes-kept;
               at = here-at;
               gone = renamed-gone p-dir renaming (a .there) hit free-here;
             },
@@ -330,8 +336,8 @@ module _ {img : List ℕ} (w : Whole img) (bytes : Bytes img) (p t : ℕ) (old n
       dir-done =
           across-done (upPut (blocks img) c t between) dir-not-t
           (λ m h d e f. file-trans (slots-few (w .sound) m h) (x .others m h d e) (y .others m h f))
-          (less-after (x .less) p-same (x .sound .inode p p-in))
-          (more-after (x .more) t-same (x .sound .inode t t-in))
+          (less-after (slots-few (x .sound) p p-in) (x .less) p-same (x .sound .inode p p-in))
+          (more-after (slots-few (x .sound) t t-in) (x .more) t-same (x .sound .inode t t-in))
           (λ f. absurd (f k))
           (λ _.
           record {

@@ -17,7 +17,8 @@ use Rattle.card_rules.specs.View.{entries}
 use Rattle.card_rules.specs.Whole.{Sound}
 use Rattle.card_rules.proofs.Counting.{count-below}
 use Rattle.card_rules.proofs.Kept.{Steady, slots-few}
-use Rattle.card_rules.proofs.Frames.{SameFile, size-is, kind-is, links-is, file-trans, inode-room}
+use Rattle.card_rules.specs.Same.{SameFile}
+use Rattle.card_rules.proofs.Frames.{size-is, kind-is, links-is, file-trans, inode-room}
 use Rattle.card_rules.proofs.Isolation.{others-same}
 use Rattle.file_requests.specs.Requests.{needs}
 use Rattle.dir_entries.specs.Entries.{appended, removed}
@@ -94,8 +95,8 @@ module _ (img l : List ℕ) (s : Sound img l) (bytes : Bytes img) (p t : ℕ) (p
         bytes = from-step .edited .bytes;
         steady = steady-trans (to-step .edited .balanced .steady) (from-step .edited .balanced .steady);
         others = λ m h d e. file-trans (slots-few s m h) (both-others m h e) (gone-others m h d);
-        less = less-before p-same (s .inode p p-in) (less-by from-step);
-        more = more-after (more-by to-step g c-low) t-same (both-sound .inode t t-in);
+        less = less-before (slots-few s p p-in) p-same (s .inode p p-in) (less-by from-step);
+        more = more-after (slots-few both-sound t t-in) (more-by to-step g c-low) t-same (both-sound .inode t t-in);
         from-links = from-step .links-is;
         to-links = links-is (t-same .slots .rec) ∙ to-step .links-is;
       }

@@ -18,7 +18,8 @@ use Rattle.card_rules.specs.Places.{Place, held, InUse}
 use Rattle.card_rules.specs.Whole.{Dir, Sound}
 use Rattle.card_rules.proofs.Views.{kids-dir, entry-at, length-fileBytes, getD-fileBytes, entry-cong, name-cong}
 use Rattle.card_rules.proofs.Kept.{Steady, slots-few}
-use Rattle.card_rules.proofs.Frames.{SameSlots, SameFile, size-is, kind-is, links-is, count-is, kids-is, fileByte-is, names-by, slots-trans, inode-room}
+use Rattle.card_rules.specs.Same.{SameSlots, SameFile}
+use Rattle.card_rules.proofs.Frames.{size-is, kind-is, links-is, count-is, kids-is, fileByte-is, names-by, slots-trans, inode-room}
 use Rattle.card_rules.proofs.Isolation.{WithinData, data-slots, data-others}
 use Rattle.file_blocks.specs.Bytes.{filled}
 use Rattle.file_blocks.proofs.Lengths.{length-filled}

@@ -7,7 +7,8 @@ use Prim.Native.Nat.{ℕ, _+_, _*_, _/_, _≤_, _<_}
 use native.Mathlib.Omega.{arith}
 use native.Mathlib.Decide.{decLt}
 use lib.ListN.{length}
-use Rattle.words.specs.Words.{byte, num, Apart, Bytes}
+use Rattle.words.specs.Words.{byte, num, Bytes}
+use Rattle.words.specs.Inner.{Apart}
 use Rattle.words.specs.Sums.{δ, sumTo, cnt}
 use Rattle.words.proofs.Numbers.{num-lt, num-frame}
 use Rattle.words.proofs.Sums.{δ-other, δ-cases, sumTo-zero}
@@ -54,7 +55,8 @@ use Rattle.card_rules.specs.View.{dataAt, owns}
 use Rattle.card_rules.specs.Whole.{Inode, Sound}
 use Rattle.card_rules.proofs.Views.{owns-few}
 use Rattle.card_rules.proofs.Owners.{map-below, free-no-inode, free-not-zero, free-not-map}
-use Rattle.card_rules.proofs.Frames.{SameFile, block-from}
+use Rattle.card_rules.specs.Same.{SameFile}
+use Rattle.card_rules.proofs.Frames.{block-from}
 use Rattle.card_rules.proofs.Kept.{Steady, bit-of}
 use Rattle.card_rules.proofs.Isolation.{Among, Added, listed-same, sound-add}
 use Rattle.file_blocks.specs.Taking.{nextFree}

@@ -26,7 +26,8 @@ use Rattle.card_rules.specs.Whole.{Reached, Sound, Tree, Whole}
 use Rattle.card_rules.specs.Places.{Place, at-indirect, at-double, held, InUse}
 use Rattle.card_rules.proofs.Views.{kids-of-dir, owned-mono}
 use Rattle.card_rules.proofs.Tree.{named-some}
-use Rattle.card_rules.proofs.Frames.{SameFile, size-is, kind-is, links-is, count-is, file-refl}
+use Rattle.card_rules.specs.Same.{SameFile}
+use Rattle.card_rules.proofs.Frames.{size-is, kind-is, links-is, count-is, file-refl}
 use Rattle.card_rules.proofs.Kept.{Steady}
 use Rattle.card_rules.proofs.Isolation.{others-same}
 use Rattle.dir_entries.specs.Entries.{whereIs, removed}
@@ -40,13 +41,15 @@ use Rattle.law_tree.proofs.Counts.{subs-none}
 use Rattle.law_tree.proofs.TreeStep.{Parent}
 use Rattle.law_tree.proofs.TreeDrop.{tree-drop-name, tree-drop}
 use Rattle.law_files.proofs.Edits.{steady-trans, edited-sound}
+use Rattle.law_dirs.specs.Entries.{OneLess, Lengthened, Relinked as ButLinks}
 use Rattle.law_dirs.proofs.Links.{Relinked, links-only}
 use Rattle.law_dirs.proofs.Remove.{Removed, inodeAt-same, remove-entry}
 use Rattle.law_dirs.proofs.EntryCounts.{EntryLess, names-less, gone-less, parent-less}
 use Rattle.law_dirs.proofs.DropCard.{DroppedCard, drop-inode}
 use Rattle.law_dirs.proofs.Tests.{dir-not}
 use Rattle.law_dirs.proofs.UnlinkTests.{Target, target}
-use Rattle.law_dirs.proofs.UnlinkSteps.{Cut, beside, less-held, less-unused, less-use, own-byte, own-count, own-held, own-kind, own-links, own-size, parent-entries, parent-links, parent-shrinks}
+use Rattle.law_dirs.proofs.UnlinkSteps.{Cut, beside, less-held, less-unused, less-use, parent-entries, parent-links, parent-shrinks}
+use Rattle.law_dirs.proofs.UnlinkSteps.{own-byte, own-count, own-held, own-kind, own-links, own-record, own-size}
 
 -- ---- what is promised
 
@@ -79,7 +82,9 @@ pub record UnlinkDone (l img out : List ℕ) (p : ℕ) (x : List ℕ) : Type 0 w
   pub name-kept : (i : ℕ) → i < entries out p → i ≢ whereIs img p x → name out p i ≡ name img p i
   pub entry-moved : whereIs img p x < entries out p → entry out p (whereIs img p x) ≡ entry img p (entries img p - 1)
   pub name-moved : whereIs img p x < entries out p → name out p (whereIs img p x) ≡ name img p (entries img p - 1)
+  pub listing : OneLess img out p (whereIs img p x)
   pub gone : whereIs out p x ≡ entries out p
+  pub parent : Lengthened img out p
   pub parent-kind : kind out p ≡ kind img p
   pub parent-shrinks : count out p ≤ count img p
   pub parent-file : kind img (namedBy img p x) ≢ 2 → links out p ≡ links img p
@@ -92,6 +97,7 @@ pub record UnlinkDone (l img out : List ℕ) (p : ℕ) (x : List ℕ) : Type 0 w
   pub size-is : size out (namedBy img p x) ≡ size img (namedBy img p x)
   pub kind-is : kind out (namedBy img p x) ≡ kind img (namedBy img p x)
   pub count-is : count out (namedBy img p x) ≡ count img (namedBy img p x)
+  pub record-kept : ButLinks img out (namedBy img p x)
   pub places : (q : Place) → InUse img (namedBy img p x) q → held out (namedBy img p x) q ≡ held img (namedBy img p x) q
   pub data-same : (o : ℕ) → o < 4096 * count img (namedBy img p x) → fileByte out (namedBy img p x) o ≡ fileByte img (namedBy img p x) o
   pub still : kind img (namedBy img p x) ≢ 2 → 2 ≤ links img (namedBy img p x) → Still l img out p (namedBy img p x)
@@ -142,7 +148,7 @@ module _ {img : List ℕ} (w : Whole img) (bytes : Bytes img) (p : ℕ) (r : Rea
   bare : kind img c ≡ 2 → kids img c ≡ 0
   bare e = omega (arith, kids-of-dir img c e, t .bare (sym kind-of ∙ e))
 
-  some-link : kind img c ≢ 2 → 1 ≤ links img c
+  pub some-link : kind img c ≢ 2 → 1 ≤ links img c
   some-link n =
       let e : 2 + (j - 2) ≡ j = omega (arith, t .past) in
       omega (
@@ -255,6 +261,8 @@ module _ {img : List ℕ} (w : Whole img) (bytes : Bytes img) (p : ℕ) (r : Rea
             name-kept = entries-less .name-kept;
             entry-moved = entries-less .entry-moved;
             name-moved = entries-less .name-moved;
+            listing = entries-less .listing;
+            parent = entries-less .parent;
             gone =
                 subst (λ (y : List ℕ). whereIs out p y ≡ entries out p) (where-hit img p x (t .there)) (gone-less d entries-less (t .past) (t .there));
             parent-kind = entries-less .kind-is;
@@ -267,6 +275,7 @@ module _ {img : List ℕ} (w : Whole img) (bytes : Bytes img) (p : ℕ) (r : Rea
             size-is = own-size cut same;
             kind-is = own-kind cut same;
             count-is = own-count cut same;
+            record-kept = own-record cut same;
             places = own-held cut same;
             data-same = own-byte cut same;
             still = still;

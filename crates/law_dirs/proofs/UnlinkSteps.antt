@@ -12,14 +12,17 @@ use Rattle.card_rules.specs.View.{fileByte}
 use Rattle.card_rules.specs.Whole as Card
 use Rattle.card_rules.specs.Whole.{Sound}
 use Rattle.card_rules.specs.Places.{Place, held, InUse}
-use Rattle.card_rules.proofs.Frames.{SameFile, size-is, kind-is, links-is, count-is, fileByte-is, file-trans}
+use Rattle.card_rules.specs.Same.{SameFile}
+use Rattle.card_rules.proofs.Frames.{size-is, kind-is, links-is, count-is, fileByte-is, file-trans}
 use Rattle.card_rules.proofs.Kept.{slots-few}
 use Rattle.card_rules.proofs.Isolation.{others-same}
 use Rattle.law_files.proofs.Files.{takes-exactly}
 use Rattle.law_files.proofs.Resized.{held-is, in-use-is}
 use Rattle.law_files.proofs.Edits.{edited-sound}
+use Rattle.law_dirs.specs.Entries.{Relinked as ButLinks}
 use Rattle.law_dirs.proofs.Links.{Relinked}
 use Rattle.law_dirs.proofs.Remove.{Removed}
+use Rattle.law_dirs.proofs.EntryBytes.{relinked-record, relinked-trans}
 use Rattle.law_dirs.proofs.EntryCounts.{EntryLess, less-by, less-after}
 
 -- ---- the steps: entry j of p is gone, then inode c has other links, then nothing changes in what is listed
@@ -50,7 +53,7 @@ module _ {img mid less out l : List ℕ} {p c v u j : ℕ} (z : Cut l img mid le
   own = first c (z .c-in) (λ q. z .apart (sym q))
 
   pub parent-entries : EntryLess img out p j
-  parent-entries = less-after (less-by (z .removes)) (then p (z .p-in) (z .apart)) (mid-sound .inode p (z .p-in))
+  parent-entries = less-after (slots-few mid-sound p (z .p-in)) (less-by (z .removes)) (then p (z .p-in) (z .apart)) (mid-sound .inode p (z .p-in))
 
   pub parent-links : links out p ≡ v
   parent-links = links-is (then p (z .p-in) (z .apart) .slots .rec) ∙ z .removes .links-is
@@ -96,6 +99,11 @@ module _ {img mid less out l : List ℕ} {p c v u j : ℕ} (z : Cut l img mid le
       fileByte-is (same c (z .c-in)) o (omega (arith, less-count))
       ∙ z .relinks .kept o (omega (arith, count-is (own .slots .rec)))
       ∙ fileByte-is own o q
+
+  -- every byte of its record but those of its links
+  pub own-record : ButLinks img out c
+  own-record =
+      relinked-trans (relinked-record (own .slots .rec)) (relinked-trans (z .relinks .rest) (relinked-record (same c (z .c-in) .slots .rec)))
 
   -- what p gave up is free
   pub less-unused : unused less + owned (count out p) ≡ unused img + owned (count img p)

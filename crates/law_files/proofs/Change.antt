@@ -7,7 +7,7 @@ use Rattle.words.specs.Words.{Bytes}
 use Rattle.card_layout.specs.Inode.{size, kind, links, count}
 use Rattle.card_rules.specs.View.{dataAt}
 use Rattle.card_rules.specs.Places.{Place, held, InUse}
-use Rattle.card_rules.proofs.Frames.{SameBlock}
+use Rattle.card_rules.specs.Same.{SameBlock}
 use Rattle.card_rules.proofs.Isolation.{Within, Balanced}
 
 pub record Changed (img out : List ℕ) (n len : ℕ) : Type 0 where

@@ -17,7 +17,7 @@ use Rattle.card_map.specs.Bits.{freeBits}
 use Rattle.card_rules.specs.Places.{Place, at-indirect, at-double, at-second, at-data}
 use Rattle.card_rules.proofs.Views.{seconds-some, seconds-many}
 use Rattle.file_blocks.specs.Ranges.{within, partsFrom, partsTo}
-use Rattle.file_blocks.specs.Shape.{Sizes}
+use Rattle.file_blocks.specs.Inner.{Sizes}
 use Rattle.file_blocks.specs.Taking.{Cursor, Growing, growDirect, growSingle, growPart, growTwofold}
 use Rattle.file_blocks.proofs.Growth.{
   growRun-none,

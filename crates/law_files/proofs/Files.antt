@@ -19,12 +19,9 @@ use Rattle.card_layout.specs.declared.inode.FileType.{FileType}
 use Rattle.card_map.specs.Bits.{mapBit}
 use Rattle.card_rules.specs.View.{fileByte, owns}
 use Rattle.card_rules.specs.Whole.{Reached, Sound, Whole}
-use Rattle.card_rules.specs.Places.{Place, held, InUse}
-use Rattle.card_rules.proofs.Cells.{held-owned, owned-held}
-use Rattle.card_rules.proofs.Owners.{held-below, places-differ}
 use Rattle.card_rules.proofs.Counting.{owns-total}
-use Rattle.card_rules.proofs.Frames.{SameFile, inode-room}
-use Rattle.card_map.proofs.Map.{bit-below}
+use Rattle.card_rules.specs.Same.{SameFile}
+use Rattle.card_rules.proofs.Frames.{inode-room}
 use Rattle.file_blocks.specs.Bytes.{readInto}
 use Rattle.file_blocks.proofs.Lengths.{length-readInto}
 use Rattle.file_blocks.proofs.Walk.{Readable}
@@ -33,11 +30,11 @@ use Rattle.file_fill.proofs.Sound.{sound-readable}
 use Rattle.card_rules.proofs.Isolation.{Balanced}
 use Rattle.file_requests.specs.Requests.{longest, needs, filedNo, judged, resizeAnswer, writeAnswer, writeCard, readAnswer, readBuffer}
 use Rattle.file_requests.specs.declared.Filed.the-variants.{Count}
-use Rattle.law_files.specs.Days.{Request, writing, named, after, OfBytes}
+use Rattle.law_files.specs.Requests.{Request, writing, named, OfBytes}
+use Rattle.law_files.specs.Inner.{after}
 use Rattle.law_files.proofs.Requests.{OfKind, kinds, Filelike, filelike, judged-long, judged-full, judged-fine, resize-file, read-file, read-buffer}
 use Rattle.law_files.proofs.Steps.{Step}
 use Rattle.law_files.proofs.Writing.{Wrote, refused, reached, wrote, there, size-wrote, step-write, step}
-use Rattle.law_files.proofs.Return.{in-use-more}
 
 -- ---- whole, and isolated
 
@@ -56,7 +53,7 @@ module _ {img : List ℕ} (w : Whole img) (b : Bytes img) (r : Request) (c : OfB
 -- ---- "A length change is refused exactly if too long or short of free blocks by RULES' count"
 
 module _ {img : List ℕ} (w : Whole img) (n : ℕ) (h : Reached img n) (d : kind img n ≢ 2) where
-  of-file : (k : FileType) × OfKind img n k × Filelike k
+  pub of-file : (k : FileType) × OfKind img n k × Filelike k
   of-file =
       let x = kinds img n (w .sound .inode n (omega (arith, w .tree .all n h))) in
       (x .0, x .1, filelike (x .0) (λ e. d (x .1 .number ∙ e)))
@@ -79,7 +76,7 @@ module _ {img : List ℕ} (w : Whole img) (n : ℕ) (h : Reached img n) (d : kin
           absurd (omega (arith, (rw (answer-is len, judged-full (unused img) (headAt img n (of-file .0)) len (omega arith) q) at e)))
       fine e (no a) (no q) = (omega arith, omega arith)
 
--- ---- "N(new) - N(old) in all", each of them free before
+-- ---- "N(new) - N(old) in all"
 
 module _ {img out l : List ℕ} {n : ℕ} (s : Sound img l) (t : Sound out l) (h : 0 < cnt n l) (x : Balanced img out n) where
   pub takes-exactly : unused out + owned (count out n) ≡ unused img + owned (count img n)
@@ -96,28 +93,6 @@ module _ {img out l : List ℕ} {n : ℕ} (s : Sound img l) (t : Sound out l) (h
         sumTo-add (owns img n) (mapBit img) (λ b. owns img n b + mapBit img b) (blocks img) (λ b q. refl),
         sumTo-cong (λ b. owns out n b + mapBit out b) (λ b. owns img n b + mapBit img b) (blocks img) (x .balance),
       )
-
-  -- a place that is new holds a block that was free
-  pub was-free : count img n ≤ count out n → ((p : Place) → InUse img n p → InUse out n p → held out n p ≡ held img n p)
-      → (p : Place) → InUse out n p → (InUse img n p → ⊥) → mapBit img (held out n p) ≡ 1
-  was-free m places p u new = go (decLt (mapBit img (held out n p)) 1)
-    where
-      b : ℕ
-      b = held out n p
-
-      low : b < blocks img
-      low = rw (x .steady .blocks-same) at (held-below out l t n p h u)
-
-      was : mapBit img b < 1 → 0 < owns img n b
-      was q = omega (arith, x .balance b low, held-owned out n p u)
-
-      go : Dec (mapBit img b < 1) → mapBit img b ≡ 1
-      go (yes q) =
-          let o = owned-held img n b (was q) in
-          let v = in-use-more img out n m (o .0) (o .1) in
-          let e = places-differ out l t n n (o .0) p h h v u (places (o .0) (o .1) v ∙ o .2) .1 in
-          absurd (new (subst (InUse img n) e (o .1)))
-      go (no q) = omega (arith, bit-below img b)
 
 -- ---- reading
 
@@ -171,28 +146,28 @@ module _ {img : List ℕ} (w : Whole img) (b : Bytes img) (n : ℕ) (h : Reached
     where
       go : Wrote (w .inodes) img n off src → fileByte out n (off + k) ≡ byte src k
       go (refused d e) = absurd (d done)
-      go (reached mid x o z g y e) = rw e (there b n given off src o z k l)
+      go (reached mid x o z g _ y e) = rw e (there b n given off src o z k l)
 
   pub write-size : size out n ≡ max (size img n) (off + length src)
   write-size = go (wrote (w .sound) (w .tree) b n given off src)
     where
       go : Wrote (w .inodes) img n off src → size out n ≡ max (size img n) (off + length src)
       go (refused d e) = absurd (d done)
-      go (reached mid x o z g y e) = rw e (size-wrote b n given off src o z)
+      go (reached mid x o z g _ y e) = rw e (size-wrote b n given off src o z)
 
   pub write-count : writeAnswer img n off src ≡ Count (length src)
   write-count = go (wrote (w .sound) (w .tree) b n given off src)
     where
       go : Wrote (w .inodes) img n off src → writeAnswer img n off src ≡ Count (length src)
       go (refused d e) = absurd (d done)
-      go (reached mid x o z g y e) = y
+      go (reached mid x o z g _ y e) = y
 
   not-dir : kind img n ≢ 2
   not-dir = go (wrote (w .sound) (w .tree) b n given off src)
     where
       go : Wrote (w .inodes) img n off src → kind img n ≢ 2
       go (refused d e) = absurd (d done)
-      go (reached mid x o z g y e) = x
+      go (reached mid x o z g _ y e) = x
 
   -- a read of as many bytes from there gives them all
   pub read-back : (buf : List ℕ) → length buf ≡ length src

@@ -18,7 +18,7 @@ use Rattle.card_map.specs.Bits.{mapByte, mapBit, freeBits}
 use Rattle.card_map.specs.Free.{freed}
 use Rattle.card_map.proofs.Map.{bit-below}
 use Rattle.card_map.proofs.Laws.{length-freed, bytes-freed, byte-freed-off, bit-freed-same, bit-freed-other, unused-freed, free-freed}
-use Rattle.file_blocks.specs.Shape.{Sizes}
+use Rattle.file_blocks.specs.Inner.{Sizes}
 use Rattle.file_blocks.specs.Taking.{freedIn, freeRun}
 use Rattle.file_shrink.proofs.Freeing.{freedIn-in, freeRun-none, freeRun-more}
 use Rattle.file_grow.proofs.Runs.{Clear}

@@ -24,7 +24,7 @@ use Rattle.card_rules.proofs.Owners.{owns-uses, held-below, not-zero, not-map}
 use Rattle.card_rules.proofs.Counting.{count-below}
 use Rattle.card_rules.proofs.Frames.{seconds-fit}
 use Rattle.file_blocks.specs.Ranges.{within, partFrom, partTo, partsFrom, partsTo}
-use Rattle.file_blocks.specs.Shape.{Sizes}
+use Rattle.file_blocks.specs.Inner.{Sizes}
 use Rattle.file_blocks.specs.Taking.{freeRun, freeDirect, freeSingle, freeTwofold, freeIndirect, freeLevel, freeDouble, shrunk}
 use Rattle.file_shrink.proofs.Freeing.{twofoldFree, freeSingle-in, freeTwofold-in, freeLevel-in, freePart-in}
 use Rattle.file_grow.proofs.Runs.{Clear}

@@ -7,7 +7,8 @@ use Prim.Native.Nat.{ℕ, _+_, _-_, _*_, _≤_, _<_}
 use native.Mathlib.Omega.{arith}
 use native.Mathlib.Decide.{decLt, ℕ-discrete}
 use lib.Dec.{ltb}
-use Rattle.words.specs.Words.{pick, num, Apart}
+use Rattle.words.specs.Words.{pick, num}
+use Rattle.words.specs.Inner.{Apart}
 use Rattle.words.specs.Sums.{δ, sumTo, cnt}
 use Rattle.words.proofs.Numbers.{num-frame}
 use Rattle.words.proofs.Sums.{δ-same, δ-other, δ-pos, sumTo-zero, sumTo-suc, sumTo-term, sumTo-pos, sumTo-cong, sumTo-add, sumTo-more, sumTo-δ}
@@ -23,7 +24,7 @@ use Rattle.card_rules.proofs.Views.{none-below, some-from, seconds-mono, owns-p
 use Rattle.card_rules.proofs.Cells.{rank, held-owned, owned-held}
 use Rattle.card_rules.proofs.Owners.{held-below, not-zero, not-map}
 use Rattle.card_rules.proofs.Counting.{sumTo-numbers}
-use Rattle.card_rules.proofs.Frames.{SameBlock}
+use Rattle.card_rules.specs.Same.{SameBlock}
 use Rattle.card_rules.proofs.Kept.{Steady}
 use Rattle.card_rules.proofs.Isolation.{Within}
 use Rattle.file_blocks.proofs.Picks.{gap-past, gap-short, gap-over}

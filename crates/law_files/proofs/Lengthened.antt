@@ -37,7 +37,7 @@ use Rattle.card_rules.specs.Whole.{Sound}
 use Rattle.card_rules.specs.Places.{Place, at-indirect, at-double, at-second, at-data}
 use Rattle.card_rules.proofs.Cells.{rank}
 use Rattle.card_rules.proofs.Views.{data-direct, data-indirect, data-double, seconds-mono, seconds-reach, owned-parts, none-below, some-from}
-use Rattle.file_blocks.specs.Shape.{Sizes}
+use Rattle.file_blocks.specs.Inner.{Sizes}
 use Rattle.file_blocks.specs.Taking.{Growing, growIndirect, growDouble, growLevel, growDirect, growSingle, growTwofold, grown}
 use Rattle.file_blocks.proofs.Picks.{gap-past, gap-short, gap-over}
 use Rattle.file_grow.proofs.Taken.{nthFree, nth-below, TookLowest}

@@ -23,5 +23,6 @@ pub mod Writing
 pub mod Return
 pub mod FreeFrom
 pub mod Files
+pub mod Effects
 pub mod Edits
 pub mod TailShown

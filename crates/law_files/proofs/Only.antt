@@ -8,10 +8,11 @@ use lib.ListN.{length}
 use Rattle.words.specs.Words.{Bytes}
 use Rattle.words.specs.Sums.{cnt}
 use Rattle.card_layout.specs.Super.{blocks, maps}
-use Rattle.card_layout.specs.Inode.{kind}
+use Rattle.card_layout.specs.Inode.{kind, links}
 use Rattle.card_rules.specs.Whole.{Sound, Tree, Whole}
 use Rattle.card_rules.specs.Places.{Place, held, InUse}
-use Rattle.card_rules.proofs.Frames.{SameFile, kind-is, count-is, file-refl, file-trans}
+use Rattle.card_rules.specs.Same.{SameFile}
+use Rattle.card_rules.proofs.Frames.{kind-is, links-is, count-is, file-refl, file-trans}
 use Rattle.card_rules.proofs.Kept.{blocks-is, maps-is, slots-few}
 use Rattle.card_rules.proofs.Isolation.{WithinData, others-same, whole-one, whole-data-write, data-slots, data-others, data-super}
 use Rattle.law_files.proofs.Resized.{Resized, held-is, in-use-is}
@@ -25,6 +26,7 @@ pub record Only (l img out : List ℕ) (n : ℕ) : Type 0 where
   pub maps-same : maps out ≡ maps img
   pub others : (m : ℕ) → 0 < cnt m l → m ≢ n → SameFile img out m
   pub kind-same : kind out n ≡ kind img n
+  pub links-same : links out n ≡ links img n
   pub places : (p : Place) → InUse img n p → InUse out n p → held out n p ≡ held img n p
 
 abbrev pub wholeOf : {img l : List ℕ} → Sound img l → Tree img l → Whole img
@@ -41,6 +43,7 @@ module _ {l img : List ℕ} (s : Sound img l) (t : Tree img l) (b : Bytes img) w
         maps-same = refl;
         others = λ m _ _. file-refl img m;
         kind-same = refl;
+        links-same = refl;
         places = λ p _ _. refl;
       }
 
@@ -55,6 +58,7 @@ module _ {l img : List ℕ} (s : Sound img l) (t : Tree img l) (b : Bytes img) w
         maps-same = r .balanced .steady .maps-same;
         others = others-same s h (r .within);
         kind-same = r .kind-is;
+        links-same = r .links-is;
         places = r .places;
       }
 
@@ -74,6 +78,7 @@ module _ {l img : List ℕ} (s : Sound img l) (t : Tree img l) (b : Bytes img) w
         maps-same = maps-is u ∙ o .maps-same;
         others = λ m c d. file-trans (slots-few s m c) (o .others m c d) (data-others (o .sound) h w m c d);
         kind-same = kind-is (slots .rec) ∙ o .kind-same;
+        links-same = links-is (slots .rec) ∙ o .links-same;
         places = λ p x y.
             let y′ : InUse mid n p = in-use-is mid out n (count-is (slots .rec)) p y in
             held-is slots (slots-few (o .sound) n h) p y′ ∙ o .places p x y′;

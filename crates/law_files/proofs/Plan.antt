@@ -6,7 +6,8 @@ use mathlib.Core.List.{List}
 use Prim.Native.Nat.{ℕ, _+_, _-_, _*_, _≤_, _<_}
 use lib.Dec.{ltb}
 use lib.ListN.{length}
-use Rattle.words.specs.Words.{pick, byte, Apart, Bytes}
+use Rattle.words.specs.Words.{pick, byte, Bytes}
+use Rattle.words.specs.Inner.{Apart}
 use Rattle.card_layout.specs.Sizes.{most, blocksFor}
 use Rattle.card_layout.specs.Super.{blocks, unused, maps}
 use Rattle.card_layout.specs.Inode.{size, kind, links, count, indirect, double}
@@ -15,7 +16,7 @@ use Rattle.card_map.specs.Bits.{mapBit}
 use Rattle.card_rules.specs.View.{second, dataAt}
 use Rattle.card_rules.specs.Places.{Place, at-inode, at-indirect, at-double, at-second, at-data, held, InUse}
 use Rattle.card_rules.proofs.Cells.{rank}
-use Rattle.card_rules.proofs.Frames.{SameBlock}
+use Rattle.card_rules.specs.Same.{SameBlock}
 use Rattle.file_grow.proofs.Taken.{nthFree}
 use Rattle.file_grow.proofs.Runs.{Clear}
 

@@ -7,7 +7,8 @@ use native.Mathlib.Numerals.{add-one}
 use native.Mathlib.Omega.{arith}
 use native.Mathlib.Decide.{decLt}
 use lib.Dec.{ltb}
-use Rattle.words.specs.Words.{pick, byte, word, Apart, Bytes}
+use Rattle.words.specs.Words.{pick, byte, word, Bytes}
+use Rattle.words.specs.Inner.{Apart}
 use Rattle.words.specs.Sums.{cnt}
 use Rattle.words.proofs.Numbers.{num-frame}
 use Rattle.card_layout.specs.Super.{blocks, unused}
@@ -22,7 +23,7 @@ use Rattle.card_rules.specs.View.{second}
 use Rattle.card_rules.specs.Places.{at-indirect, at-double, at-second}
 use Rattle.card_rules.proofs.Views.{seconds-none, seconds-some, seconds-many, seconds-mono, owned-parts, none-below, some-from}
 use Rattle.file_blocks.specs.Taking.{Growing, nextOf, tookNext, moved, growIndirect, growDouble, growLevel}
-use Rattle.file_blocks.specs.Shape.{Sizes}
+use Rattle.file_blocks.specs.Inner.{Sizes}
 use Rattle.file_blocks.proofs.Picks.{pick-no, pick-both, gap-past, gap-short, gap-over}
 use Rattle.file_blocks.proofs.Growth.{growRun-none, levelRun, growLevel-in, inode-growLevel}
 use Rattle.file_grow.proofs.Taken.{nthFree, nth-below, TookLowest, took-none, took-next, next-is, byte-tookNext}

@@ -119,6 +119,10 @@ module _ {img : List ℕ} {n : ℕ} (o : OfKind img n Dir) where
   unfolding writeCard
   write-dir-card nb off src = rw (o .decodes)
 
+  pub read-dir : (off k : ℕ) → readAnswer img n off k ≡ NotFile
+  unfolding readAnswer
+  read-dir off k = rw (o .decodes)
+
 -- ---- a file or a symbolic link
 
 module _ {img : List ℕ} {n : ℕ} {k : FileType} (o : OfKind img n k) (f : Filelike k) where

@@ -15,7 +15,8 @@ use Rattle.card_rules.specs.View.{fileByte}
 use Rattle.card_rules.specs.Whole.{Sound}
 use Rattle.card_rules.specs.Places.{Place, at-inode, at-indirect, at-double, at-second, at-data, held, InUse}
 use Rattle.card_rules.proofs.Views.{fileByte-at}
-use Rattle.card_rules.proofs.Frames.{SameSlots, size-is, kind-is, links-is, count-is, indirect-is, double-is, inode-is, second-is, data-is, owns-is, inode-room}
+use Rattle.card_rules.specs.Same.{SameSlots}
+use Rattle.card_rules.proofs.Frames.{size-is, kind-is, links-is, count-is, indirect-is, double-is, inode-is, second-is, data-is, owns-is, inode-room}
 use Rattle.card_rules.proofs.Kept.{Steady, magic-is, blocks-is, unused-is, maps-is, bit-of, slots-few}
 use Rattle.card_rules.proofs.Isolation.{Within, Balanced, WithinData, within-trans, sound-one, data-within, data-slots, data-super, data-map}
 use Rattle.file_blocks.proofs.Lengths.{length-filled}

@@ -1,7 +1,7 @@
 -- Return to start (RULES, demand 3): a day along which no length falls below its starting one, and after which all are at it, leaves map, unused count,
 -- directories and block lists as they were; all along each byte below a file's starting length is as it was or as last written there. Assumes nothing.
 use mathlib.Core.Path.{_≡_, refl, sym, ap, _∙_}
-use mathlib.Core.List.{List, [], _∷_, _++_}
+use mathlib.Core.List.{List}
 use Prim.Native.Nat.{ℕ, zero, suc, _+_, _*_, _/_, _^_, _≤_, _<_}
 use native.Mathlib.Omega.{arith}
 use native.Mathlib.Decide.{decLt}
@@ -14,15 +14,16 @@ use Rattle.card_layout.specs.Slots.{seconds}
 use Rattle.card_map.specs.Bits.{mapBit}
 use Rattle.card_map.proofs.Bits.{bitOf, bitOf-zero, bitOf-suc}
 use Rattle.card_map.proofs.Map.{bit-at, free-is}
-use Rattle.card_rules.specs.View.{second, dataAt, fileByte, owns, uses}
-use Rattle.card_rules.specs.Whole.{Sound, Tree, Whole}
+use Rattle.card_rules.specs.View.{second, dataAt, owns, uses}
+use Rattle.card_rules.specs.Whole.{Reached, Sound, Tree}
 use Rattle.card_rules.specs.Places.{Place, at-inode, at-indirect, at-double, at-second, at-data, held, InUse}
 use Rattle.card_rules.proofs.Views.{none-below, some-from, ownIndirect, ownDouble, ownSeconds, ownData, owns-parts, uses-parts, seconds-mono}
-use Rattle.card_rules.proofs.Frames.{SameFile, fileByte-is, file-refl, file-trans, inode-room}
+use Rattle.card_rules.specs.Same.{SameFile}
+use Rattle.card_rules.proofs.Frames.{file-refl, file-trans}
 use Rattle.card_rules.proofs.Kept.{slots-few}
-use Rattle.law_files.specs.Days.{Request, after, afterAll, lastWritten, Day, over, then, Returned}
+use Rattle.law_files.specs.Requests.{Request}
+use Rattle.law_files.specs.Returned.{Returned}
 use Rattle.law_files.proofs.Steps.{Step}
-use Rattle.law_files.proofs.Writing.{step}
 
 -- a number is its bits
 pub bits-same : (n x y : ℕ) → x < 2 ^ n → y < 2 ^ n → ((k : ℕ) → k < n → bitOf x k ≡ bitOf y k) → x ≡ y
@@ -96,23 +97,9 @@ module _ {l start : List ℕ} (s : Sound start l) where
             ∙ z .places n p c u;
       }
 
-  pub since-all : {img : List ℕ} (rs : List Request) → Since l start img → Day l start img rs → Since l start (afterAll l img rs)
-  unfolding afterAll
-  since-all [] z over = z
-  since-all (r ∷ rs) z (then b h d) = since-all rs (since-step z (step (z .sound) (z .tree) (z .bytes) r b) h) d
-
-  pub bytes-all : {img : List ℕ} (rs : List Request) → Since l start img → Day l start img rs → (n o : ℕ) → 0 < cnt n l → o < size start n
-      → fileByte (afterAll l img rs) n o ≡ lastWritten l img rs n o (fileByte img n o)
-  unfolding afterAll lastWritten
-  bytes-all [] z over n o c q = refl
-  bytes-all {img} (r ∷ rs) z (then b h d) n o c q =
-      let x = step (z .sound) (z .tree) (z .bytes) r b in
-      bytes-all rs (since-step z x h) d n o c q
-      ∙ ap (lastWritten l (after l img r) rs n o) (x .byte-is n o c (omega (arith, z .sizes n c)) (omega (arith, h n c)))
-
   -- ---- back at the starting lengths
 
-  module _ {out : List ℕ} (bytes : Bytes start) (z : Since l start out) (ends : (n : ℕ) → 0 < cnt n l → size out n ≡ size start n) where
+  module _ {out : List ℕ} (t : Tree start l) (bytes : Bytes start) (z : Since l start out) (ends : (n : ℕ) → 0 < cnt n l → size out n ≡ size start n) where
     count-back : (n : ℕ) → 0 < cnt n l → count out n ≡ count start n
     count-back n c = omega (arith, s .inode n c .shape .counted, z .sound .inode n c .shape .counted, ends n c)
 
@@ -167,36 +154,19 @@ module _ {l start : List ℕ} (s : Sound start l) where
     bits-back b q (no a) =
         z .sound .past b (rw (z .blocks-same) (let h : blocks start ≤ b = omega arith in h)) (rw (z .maps-same) q) ∙ sym (s .past b (omega arith) q)
 
-    pub returned : Returned l start out
+    in-start : (n : ℕ) → Reached start n → 0 < cnt n l
+    in-start n r = omega (arith, t .all n r)
+
+    pub returned : Returned start out
     returned =
         record {
-          map-same = λ b q. bits-back b q (decLt b (blocks start));
-          unused-same =
+          map = λ k q. byte-bits start out k bytes (z .bytes) (λ i l. bits-back (8 * k + i) (omega arith) (decLt (8 * k + i) (blocks start)));
+          free =
               sym (z .sound .free)
               ∙ ap (sumTo (mapBit out)) (z .blocks-same)
               ∙ free-is start out (blocks start) bit-back
               ∙ s .free;
-          map-bytes = λ k q. byte-bits start out k bytes (z .bytes) (λ i l. bits-back (8 * k + i) (omega arith) (decLt (8 * k + i) (blocks start)));
-          count-same = count-back;
-          places-same = z .places;
-          directory-same = λ n o c k q. fileByte-is (z .dirs-same n c k) o (omega (arith, inode-room (s .inode n c)));
+          directories = λ n r k. z .dirs-same n (in-start n r) k;
+          counts = λ n r. count-back n (in-start n r);
+          places = λ n p r u. z .places n p (in-start n r) u;
         }
-
--- ---- the statement
-
--- a first part of a day is a day
-pub day-first : {l start img : List ℕ} (xs ys : List Request) → Day l start img (xs ++ ys) → Day l start img xs
-day-first [] ys d = over
-day-first (x ∷ xs) ys (then b h d) = then b h (day-first xs ys d)
-
-module _ (start : List ℕ) (w : Whole start) (bytes : Bytes start) where
-  pub return-to-start : (rs : List Request) → Day (w .inodes) start start rs
-      → ((n : ℕ) → 0 < cnt n (w .inodes) → size (afterAll (w .inodes) start rs) n ≡ size start n)
-      → Returned (w .inodes) start (afterAll (w .inodes) start rs)
-  return-to-start rs d ends =
-      returned (w .sound) bytes (since-all (w .sound) rs (since-start (w .sound) (w .tree) bytes) d) ends
-
-  -- after each first part of the day
-  pub all-along : (xs ys : List Request) → Day (w .inodes) start start (xs ++ ys) → (n o : ℕ) → 0 < cnt n (w .inodes) → o < size start n
-      → fileByte (afterAll (w .inodes) start xs) n o ≡ lastWritten (w .inodes) start xs n o (fileByte start n o)
-  all-along xs ys d = bytes-all (w .sound) xs (since-start (w .sound) (w .tree) bytes) (day-first xs ys d)

@@ -9,7 +9,8 @@ use native.Mathlib.Omega.{arith}
 use native.Mathlib.Decide.{decLt}
 use lib.Dec.{ltb}
 use lib.ListN.{length}
-use Rattle.words.specs.Words.{pick, byte, num, Apart, Bytes}
+use Rattle.words.specs.Words.{pick, byte, num, Bytes}
+use Rattle.words.specs.Inner.{Apart}
 use Rattle.words.specs.Sums.{δ, cnt}
 use Rattle.words.proofs.Numbers.{num-frame}
 use Rattle.words.proofs.Sums.{sumTo-cong}
@@ -61,7 +62,8 @@ use Rattle.card_rules.proofs.Views.{data-direct, data-indirect, data-double, se
 use Rattle.card_rules.proofs.Counting.{count-below}
 use Rattle.card_rules.proofs.Cells.{rank}
 use Rattle.card_rules.proofs.Owners.{owns-uses, inode-below, places-differ, not-zero, not-map}
-use Rattle.card_rules.proofs.Frames.{SameBlock, block-from, block-slot, seconds-fit}
+use Rattle.card_rules.specs.Same.{SameBlock}
+use Rattle.card_rules.proofs.Frames.{block-from, block-slot, seconds-fit}
 use Rattle.card_rules.proofs.Kept.{Steady, slots-few}
 use Rattle.card_rules.proofs.Isolation.{Balanced}
 use Rattle.file_blocks.specs.Taking.{shrunk, lessIndirect, lessDouble}

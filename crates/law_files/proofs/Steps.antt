@@ -14,10 +14,12 @@ use Rattle.card_layout.specs.declared.inode.FileType.the-variants.{File, Dir, S
 use Rattle.card_rules.specs.View.{fileByte}
 use Rattle.card_rules.specs.Whole.{Sound, Tree}
 use Rattle.card_rules.specs.Places.{Place, held, InUse}
-use Rattle.card_rules.proofs.Frames.{SameFile, size-is, kind-is, file-refl, fileByte-is, inode-room}
+use Rattle.card_rules.specs.Same.{SameFile}
+use Rattle.card_rules.proofs.Frames.{size-is, kind-is, file-refl, fileByte-is, inode-room}
 use Rattle.card_rules.proofs.Kept.{slots-few}
 use Rattle.file_requests.specs.Requests.{longest, needs, resizeCard}
-use Rattle.law_files.specs.Days.{Request, resizing, named, written}
+use Rattle.law_files.specs.Requests.{Request, resizing, named}
+use Rattle.law_files.specs.Inner.{written}
 use Rattle.law_files.proofs.Resized.{held-is}
 use Rattle.law_files.proofs.Lengths.{length-change}
 use Rattle.law_files.proofs.Only.{Only, only-resized}

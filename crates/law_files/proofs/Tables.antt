@@ -6,7 +6,8 @@ use mathlib.Core.List.{List}
 use Prim.Native.Nat.{ℕ, zero, suc, _+_, _-_, _*_, _/_, _%_, _≤_, _<_}
 use native.Mathlib.Omega.{arith}
 use native.Mathlib.Decide.{decLt, ℕ-discrete}
-use Rattle.words.specs.Words.{byte, word, Apart}
+use Rattle.words.specs.Words.{byte, word}
+use Rattle.words.specs.Inner.{Apart}
 use Rattle.words.proofs.Numbers.{num-frame}
 use Rattle.card_layout.specs.Super.{unused}
 use Rattle.card_layout.specs.Slots.{seconds}
@@ -14,7 +15,7 @@ use Rattle.card_map.specs.Bits.{freeBits}
 use Rattle.card_rules.specs.Places.{Place, at-inode, at-indirect, at-double, at-second, at-data}
 use Rattle.card_rules.proofs.Cells.{rank}
 use Rattle.card_rules.proofs.Views.{seconds-some, seconds-many, seconds-reach}
-use Rattle.file_blocks.specs.Shape.{Sizes}
+use Rattle.file_blocks.specs.Inner.{Sizes}
 use Rattle.file_blocks.specs.Taking.{Cursor, growRun}
 use Rattle.file_grow.proofs.Taken.{nthFree, TookLowest}
 use Rattle.file_grow.proofs.Runs.{Clear, Ran, ran}

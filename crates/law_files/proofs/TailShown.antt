@@ -19,7 +19,8 @@ use Rattle.card_rules.specs.Places.{at-data}
 use Rattle.card_rules.proofs.Views.{fileByte-at}
 use Rattle.card_rules.proofs.Cells.{rank}
 use Rattle.card_rules.proofs.Owners.{held-below, not-zero, not-map}
-use Rattle.card_rules.proofs.Frames.{SameBlock, data-is}
+use Rattle.card_rules.specs.Same.{SameBlock}
+use Rattle.card_rules.proofs.Frames.{data-is}
 use Rattle.card_rules.proofs.Isolation.{sound-one, data-slots}
 use Rattle.file_requests.specs.Resizing.{cleaned, lengthened, resized}
 use Rattle.file_requests.specs.Requests.{longest, needs}

@@ -25,9 +25,11 @@ use Rattle.card_layout.proofs.InodeLaws.{inodeAt}
 use Rattle.file_requests.specs.Resizing.{resized}
 use Rattle.file_requests.specs.Requests.{longest, needs, endOf, filedNo, writeAnswer, writeCard}
 use Rattle.file_requests.specs.declared.Filed.the-variants.{Count}
-use Rattle.law_files.specs.Days.{Request, reading, writing, resizing, answered, after, OfBytes, written}
+use Rattle.law_files.specs.Requests.{Request, reading, writing, resizing, OfBytes}
+use Rattle.law_files.specs.Inner.{answered, after, written}
 use Rattle.law_files.proofs.Filling.{bytes-filled, filled-within, filled-comes, filled-stays}
 use Rattle.law_files.proofs.Lengths.{length-change}
+use Rattle.law_files.specs.Effects.{NewRoom}
 use Rattle.law_files.proofs.Only.{Only, only-refl, only-resized, only-data}
 use Rattle.law_files.proofs.Requests.{
   OfKind,
@@ -56,7 +58,8 @@ use Rattle.law_files.proofs.Steps.{Step, step-none, step-only, step-res
 pub data Wrote (l img : List ℕ) (n off : ℕ) (src : List ℕ) : Type 0 where
   refused : filedNo (writeAnswer img n off src) ≢ 0 → writeCard (blocks img) img n off src ≡ img → Wrote l img n off src
   reached : (mid : List ℕ) → kind img n ≢ 2 → Only l img mid n → size mid n ≡ max (size img n) (endOf off src)
-      → ((o : ℕ) → o < size img n → fileByte mid n o ≡ fileByte img n o) → writeAnswer img n off src ≡ Count (length src)
+      → ((o : ℕ) → o < size img n → fileByte mid n o ≡ fileByte img n o)
+      → ((o : ℕ) → size img n ≤ o → o < endOf off src → NewRoom img mid n (endOf off src) o) → writeAnswer img n off src ≡ Count (length src)
       → writeCard (blocks img) img n off src ≡ filled false src (blocks mid) n off (endOf off src) mid → Wrote l img n off src
 
 module _ {l img : List ℕ} (s : Sound img l) (t : Tree img l) (b : Bytes img) (n : ℕ) (h : 0 < cnt n l) (off : ℕ) (src : List ℕ) where
@@ -68,7 +71,7 @@ module _ {l img : List ℕ} (s : Sound img l) (t : Tree img l) (b : Bytes img) (
     write-in : endOf off src ≤ size img n → Wrote l img n off src
     write-in e =
         let j = write-inside (unused img) (headAt img n k) (endOf off src) e in
-        reached img not-dir (only-refl s t b n) (omega arith) (λ p a. refl) (write-file o f off src j)
+        reached img not-dir (only-refl s t b n) (omega arith) (λ p a. refl) (λ p a l. absurd (omega arith)) (write-file o f off src j)
         (write-done o f off src (blocks img) j ∙ ap (filled false src (blocks img) n off (endOf off src)) (reaching-no o f (blocks img) (endOf off src) e))
 
     -- past it: the length changes first, where 12 and 14 allow
@@ -87,7 +90,8 @@ module _ {l img : List ℕ} (s : Sound img l) (t : Tree img l) (b : Bytes img) (
         let j = write-past (unused img) (headAt img n k) (endOf off src) e ∙ judged-fine (unused img) (headAt img n k) (endOf off src) (omega arith) (omega arith) in
         let r = length-change img l s b n h k (o .number) (endOf off src) (omega arith) (omega arith) in
         let x = only-resized s t b h not-dir r in
-        reached _ not-dir x (omega (arith, r .size-is)) (λ p a. r .kept p a (omega arith)) (write-file o f off src j)
+        reached _ not-dir x (omega (arith, r .size-is)) (λ p a. r .kept p a (omega arith))
+        (λ p a l. record { zeros = λ g. r .zeros g p a l; shown = λ g. r .shown g p (omega arith) }) (write-file o f off src j)
         (write-done o f off src (blocks img) j
         ∙ ap (filled false src (blocks img) n off (endOf off src)) (reaching-yes o f (blocks img) (endOf off src) e)
         ∙ ap (λ (nb : ℕ). filled false src nb n off (endOf off src) (resized (blocks img) n (inodeAt img n k) (endOf off src) img)) (sym (x .blocks-same)))
@@ -158,33 +162,36 @@ module _ {l img mid : List ℕ} (b : Bytes img) (n : ℕ) (h : 0 < cnt n l) (off
   pub there : (k : ℕ) → k < length src → fileByte out n (off + k) ≡ byte src k
   there k l = filled-comes (x .sound) (x .bytes) n h false src off (endOf off src) (omega arith) inside k (omega arith)
 
-  elsewhere : (o : ℕ) → o < size img n → (off ≤ o → o < endOf off src → ⊥) → fileByte out n o ≡ fileByte mid n o
+  pub elsewhere : (o : ℕ) → o < size mid n → (off ≤ o → o < endOf off src → ⊥) → fileByte out n o ≡ fileByte mid n o
   elsewhere o a d =
       filled-stays (x .sound) (x .bytes) n h false src off (endOf off src) (omega arith) inside o
       (omega (arith, e, inode-room (x .sound .inode n h)))
       d
 
-  module _ (s : Sound img l) (t : Tree img l) (c : Bytes src) (k : kind img n ≢ 2) (g : (o : ℕ) → o < size img n → fileByte mid n o ≡ fileByte img n o)
-      (done : writeAnswer img n off src ≡ Count (length src)) where
-    step-reached : Step l img out (writing n off src)
-    step-reached =
-        step-only s t b (writing n off src) n refl k
-        (only-data s t b h k x fills (length-filled false src (blocks mid) off (endOf off src) n mid)
-        (bytes-filled false src (blocks mid) n off (endOf off src) mid c (x .bytes)))
-        (λ i o v. written-other l img n off src i o v)
-        (λ o a _. at-byte o a (decLt o off) (decLt o (off + length src)))
-      where
-        kept : (o : ℕ) → o < size img n → (off ≤ o → o < endOf off src → ⊥) → fileByte out n o ≡ written l img (writing n off src) n o (fileByte img n o)
-        kept o a d = elsewhere o a d ∙ g o a ∙ sym (written-out l img n off src h done o (fileByte img n o) d)
+  module _ (s : Sound img l) (t : Tree img l) (c : Bytes src) (k : kind img n ≢ 2) where
+    pub only-wrote : Only l img out n
+    only-wrote =
+        only-data s t b h k x fills (length-filled false src (blocks mid) off (endOf off src) n mid)
+        (bytes-filled false src (blocks mid) n off (endOf off src) mid c (x .bytes))
 
-        at-byte : (o : ℕ) → o < size img n → Dec (o < off) → Dec (o < off + length src)
-            → fileByte out n o ≡ written l img (writing n off src) n o (fileByte img n o)
-        at-byte o a (yes p) q = kept o a (λ u v. omega arith)
-        at-byte o a (no p) (no q) = kept o a (λ u v. omega arith)
-        at-byte o a (no p) (yes q) =
-            let y : off + (o - off) ≡ o = omega arith in
-            subst (λ (z : ℕ). fileByte out n z ≡ byte src (o - off)) y (there (o - off) (omega arith))
-            ∙ sym (written-in l img n off src h done o (fileByte img n o) (omega arith) q)
+    module _ (g : (o : ℕ) → o < size img n → fileByte mid n o ≡ fileByte img n o) (done : writeAnswer img n off src ≡ Count (length src)) where
+      step-reached : Step l img out (writing n off src)
+      step-reached =
+          step-only s t b (writing n off src) n refl k only-wrote
+          (λ i o v. written-other l img n off src i o v)
+          (λ o a _. at-byte o a (decLt o off) (decLt o (off + length src)))
+        where
+          kept : (o : ℕ) → o < size img n → (off ≤ o → o < endOf off src → ⊥) → fileByte out n o ≡ written l img (writing n off src) n o (fileByte img n o)
+          kept o a d = elsewhere o (omega (arith, e)) d ∙ g o a ∙ sym (written-out l img n off src h done o (fileByte img n o) d)
+
+          at-byte : (o : ℕ) → o < size img n → Dec (o < off) → Dec (o < off + length src)
+              → fileByte out n o ≡ written l img (writing n off src) n o (fileByte img n o)
+          at-byte o a (yes p) q = kept o a (λ u v. omega arith)
+          at-byte o a (no p) (no q) = kept o a (λ u v. omega arith)
+          at-byte o a (no p) (yes q) =
+              let y : off + (o - off) ≡ o = omega arith in
+              subst (λ (z : ℕ). fileByte out n z ≡ byte src (o - off)) y (there (o - off) (omega arith))
+              ∙ sym (written-in l img n off src h done o (fileByte img n o) (omega arith) q)
 
 module _ {l img : List ℕ} (s : Sound img l) (t : Tree img l) (b : Bytes img) (n : ℕ) (h : 0 < cnt n l) (off : ℕ) (src : List ℕ)
     (c : Bytes src) where
@@ -193,7 +200,7 @@ module _ {l img : List ℕ} (s : Sound img l) (t : Tree img l) (b : Bytes img) (
     where
       go : Wrote l img n off src → Step l img (writeCard (blocks img) img n off src) (writing n off src)
       go (refused d e) = rw e (step-none s t b (writing n off src) (written-not l img n off src d))
-      go (reached mid k x z g done e) = rw e (step-reached b n h off src x z s t c k g done)
+      go (reached mid k x z g _ done e) = rw e (step-reached b n h off src x z s t c k g done)
 
 -- ---- any request
 

@@ -6,7 +6,8 @@ use mathlib.Core.List.{List}
 use Prim.Native.Nat.{ℕ, _+_, _-_, _*_, _/_, _%_, _≤_, _<_}
 use native.Mathlib.Omega.{arith}
 use lib.ListN.{length}
-use Rattle.words.specs.Words.{byte, word, Apart}
+use Rattle.words.specs.Words.{byte, word}
+use Rattle.words.specs.Inner.{Apart}
 use Rattle.words.proofs.Numbers.{num-frame}
 use Rattle.card_layout.specs.Sizes.{most}
 use Rattle.card_layout.specs.Super.{unused}
@@ -19,9 +20,9 @@ use Rattle.card_map.proofs.Map.{bit-is}
 use Rattle.card_rules.specs.View.{slot, second, dataAt}
 use Rattle.card_rules.specs.Places.{Place, at-inode, at-indirect, at-double, at-second, at-data, held}
 use Rattle.card_rules.proofs.Cells.{rank}
-use Rattle.card_rules.proofs.Frames.{SameBlock}
+use Rattle.card_rules.specs.Same.{SameBlock}
 use Rattle.card_rules.proofs.Views.{data-direct, data-indirect, data-double, seconds-many, seconds-reach, seconds-some, ranges}
-use Rattle.file_blocks.specs.Shape.{Sizes}
+use Rattle.file_blocks.specs.Inner.{Sizes}
 use Rattle.file_blocks.specs.Taking.{Cursor}
 use Rattle.law_files.proofs.Plan.{Had}
 use Rattle.law_files.proofs.Tables.{tableOf, table-rank, table-first, table-second, had-table, blocks-apart, Seats, seatOf, Listed}

@@ -1,1 +1,4 @@
-pub mod Days
+pub mod Requests
+pub mod Returned
+pub mod Effects
+pub mod Inner

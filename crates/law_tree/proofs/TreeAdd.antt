@@ -11,7 +11,8 @@ use Rattle.card_layout.specs.Inode.{kind, links}
 use Rattle.card_rules.specs.View.{entry, entries, kids, timesNamed, naming}
 use Rattle.card_rules.specs.Whole.{Inode, Dir, Tree}
 use Rattle.card_rules.proofs.Views.{kids-of-dir, kids-of-other}
-use Rattle.card_rules.proofs.Frames.{SameFile, names-is}
+use Rattle.card_rules.specs.Same.{SameFile}
+use Rattle.card_rules.proofs.Frames.{names-is}
 use Rattle.law_tree.proofs.Counts.{TreeBy, tree-to, reached-names, names-none, subs-none, ifDir, dir-counts, other-none, none-none, unlisted-unnamed, naming-none}
 use Rattle.law_tree.proofs.TreeStep.{Stays, Sits, Parent, Linking, reach, tree-step, stays-parent, all-stay, same-more, one-more, apart-listed, tree-linking}
 

@@ -11,7 +11,8 @@ use Rattle.card_layout.specs.Inode.{kind, links}
 use Rattle.card_rules.specs.View.{kids, timesNamed, naming}
 use Rattle.card_rules.specs.Whole.{Inode, Tree}
 use Rattle.card_rules.proofs.Views.{kids-of-other}
-use Rattle.card_rules.proofs.Frames.{SameFile, names-is}
+use Rattle.card_rules.specs.Same.{SameFile}
+use Rattle.card_rules.proofs.Frames.{names-is}
 use Rattle.law_tree.proofs.Counts.{TreeBy, tree-to, names-none, ifDir, dir-counts, other-none, none-none}
 use Rattle.law_tree.proofs.TreeStep.{Stays, Parent, Linking, tree-step, stays-parent, all-stay, same-less, one-less, apart-listed, named-not-root, tree-linking}
 

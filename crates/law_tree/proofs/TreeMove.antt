@@ -10,7 +10,8 @@ use Rattle.words.proofs.Sums.{δ-same, δ-other, sumOn-term, sumOn-cong, sumOn-
 use Rattle.card_layout.specs.Inode.{kind, links}
 use Rattle.card_rules.specs.View.{entry, timesNamed, subs, naming}
 use Rattle.card_rules.specs.Whole.{Reached, root, Inode, Dir, Tree}
-use Rattle.card_rules.proofs.Frames.{SameFile, kind-is, links-is, names-is}
+use Rattle.card_rules.specs.Same.{SameFile}
+use Rattle.card_rules.proofs.Frames.{kind-is, links-is, names-is}
 use Rattle.law_tree.proofs.Counts.{TreeBy, tree-to, reached-in, reached-names, reached-cases, names-dir, dir-counts, none-none, subs-change, unlisted-unnamed}
 use Rattle.law_tree.proofs.TreeStep.{Stays, Parent, tree-step, stays-parent, all-stay, same-more, same-less, one-more, one-less, apart-listed, by-kind, named-not-root, tree-leaf}
 

@@ -12,7 +12,8 @@ use Rattle.card_layout.specs.Inode.{kind, links}
 use Rattle.card_rules.specs.View.{entry, timesNamed, subs, naming}
 use Rattle.card_rules.specs.Whole.{Reached, root, down, Inode, Dir, Tree}
 use Rattle.card_rules.proofs.Views.{kids-of-other}
-use Rattle.card_rules.proofs.Frames.{SameFile, kind-is, links-is, entry-is, dir-is, names-is}
+use Rattle.card_rules.specs.Same.{SameFile}
+use Rattle.card_rules.proofs.Frames.{kind-is, links-is, entry-is, dir-is, names-is}
 use Rattle.card_rules.proofs.Tree.{names-some}
 use Rattle.law_tree.proofs.Counts.{TreeBy, tree-to, tree-from, reached-in, reached-names, names-none, ifDir, dir-counts, other-none, none-none, subs-change}
 

@@ -1,5 +1,5 @@
--- The statements of read, write and resize leave one answer, one image, one buffer and one scratch: two programs that meet them agree, whether they
--- are called in Rattle or from C. Assumes nothing.
+-- The statements of the check, read, write and resize leave one answer, one image, one buffer and one scratch: two programs that meet them agree, whether
+-- they are called in Rattle or from C. Assumes nothing.
 use Prim.Native.Nat.{ℕ}
 use mathlib.Core.Path.{_≡_, refl, sym, ap, _∙_}
 use mathlib.Core.List.{List}
@@ -7,10 +7,11 @@ use lib.ListN.{length}
 use Rattle.card_layout.specs.Super.{blocks}
 use Rattle.file_requests.specs.Requests.{resizeAnswer, resizeCard, writeAnswer, writeCard, readAnswer, readBuffer}
 use Rattle.check_walk.specs.declared.Opened.{Opened}
-use Rattle.check_walk.specs.Opening.{Opening}
+use Rattle.check_walk.specs.Opening.{Opening, statusOf, blocksOf, unusedOf}
 use Rattle.check_walk.proofs.Agree.{agree}
 use Rattle.call_said.specs.Said.{saidNo, saidValue, ifOpen, ofOpened, ofFiled}
 use Rattle.call_files.specs.FileCalls.{Read, Written, Resized}
+use Rattle.sfs.specs.Check.{Checked}
 use Rattle.sfs.specs.FileCallsC.{ReadC, WrittenC, ResizedC}
 use Rattle.call_said.specs.declared.Said.{Said}
 
@@ -52,6 +53,25 @@ pub no-value : {r₁ r₂ : Said} {a₁ a₂ : ℕ} {x₁ x₂ s₁ s₂ : List 
     → SameC a₁ a₂ 0 0 x₁ x₂ s₁ s₂
 no-value q a b =
     record { status = a ∙ ap saidNo (q .said) ∙ sym b; value = refl; changed = q .changed; scratch = q .scratch }
+
+-- ---- the check: the number, the two counts and the scratch; the image is lent as `&[u8]`
+
+pub record SameCheck (a₁ a₂ b₁ b₂ u₁ u₂ : ℕ) (s₁ s₂ : List ℕ) : Type 0 where
+  pub status : a₁ ≡ a₂
+  pub blocks : b₁ ≡ b₂
+  pub unused : u₁ ≡ u₂
+  pub scratch : s₁ ≡ s₂
+
+pub checked-agrees : {img s s₁ s₂ : List ℕ} {a₁ a₂ b₁ b₂ u₁ u₂ : ℕ} → Checked img s s₁ a₁ b₁ u₁ → Checked img s s₂ a₂ b₂ u₂
+    → SameCheck a₁ a₂ b₁ b₂ u₁ u₂ s₁ s₂
+checked-agrees a b =
+    let q = agree (a .opening) (b .opening) in
+    record {
+      status = by-opening statusOf (q .0) (a .status-is) (b .status-is);
+      blocks = by-opening blocksOf (q .0) (a .blocks-is) (b .blocks-is);
+      unused = by-opening unusedOf (q .0) (a .unused-is) (b .unused-is);
+      scratch = q .1;
+    }
 
 module _ {img s s₁ s₂ : List ℕ} {n : ℕ} where
   -- ---- read: the buffer

@@ -5,7 +5,7 @@ use Prim.Native.Nat.{ℕ}
 use native.Mathlib.Decide.{ℕ-discrete}
 use lib.Dec.{eqb}
 use borrow.Author.Tests.{not-true, not-false, eq-eqb, ne-eqb}
-use Rattle.words.specs.Words.{When}
+use Rattle.words.specs.Inner.{When}
 
 module _ (t : Bool) (A B : Type 0) where
   pub when-true : t ≡ true → When t A B → A

@@ -10,7 +10,8 @@ use native.Mathlib.Nat.{div-lt-iff-lt-mul, pow-suc}
 use lib.ListN.{length, getD, set, length-set}
 use native.Mathlib.Decide.{decLt, ℕ-discrete}
 use lib.Seq.{getD-set-same, getD-set-other, set-comm, set-set, set-out, set-getD}
-use Rattle.words.specs.Words.{byte, num, putNum, Bytes, Apart}
+use Rattle.words.specs.Words.{byte, num, putNum, Bytes}
+use Rattle.words.specs.Inner.{Apart}
 
 pub length-put : (n : ℕ) (xs : List ℕ) (at v : ℕ) → length (putNum n xs at v) ≡ length xs
 unfolding putNum

@@ -8,7 +8,8 @@ use native.Mathlib.Decide.{decLt}
 use lib.ListN.{length, getD, set, take, drop, length-take, length-drop, List·getD-append}
 use lib.Seq.{getD-take, getD-drop, drop-set-add, take-set-lt, take-set-le, drop-set-lt, drop-at, take-at, length-take-le}
 use borrow.Rule.Slice.PartMut.{midOf, putMid, postOf, put-same}
-use Rattle.words.specs.Words.{num, putNum, Apart}
+use Rattle.words.specs.Words.{num, putNum}
+use Rattle.words.specs.Inner.{Apart}
 use Rattle.words.proofs.Numbers.{num-out, num-frame}
 
 pub length-mid : (a k : ℕ) (xs : List ℕ) → a + k ≤ length xs → length (midOf a k xs) ≡ k

@@ -9,7 +9,8 @@ use native.Mathlib.Omega.{arith}
 use native.Mathlib.Decide.{ℕ-discrete}
 use lib.ListN.{length, getD, set, length-set, replicate, length-replicate, getD-replicate}
 use lib.Seq.{set-getD, paste, paste-zero, paste-suc, getD-set-same, getD-set-other}
-use Rattle.words.specs.Words.{byte, num, putNum, Apart, Bytes}
+use Rattle.words.specs.Words.{byte, num, putNum, Bytes}
+use Rattle.words.specs.Inner.{Apart}
 use Rattle.words.specs.Runs.{puts, copied, zeroed, turns}
 use Rattle.words.proofs.Numbers.{bytes-set}
 

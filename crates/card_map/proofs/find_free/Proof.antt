@@ -2,7 +2,8 @@
 use mathlib.Core.Path.{_≡_, sym, ap, _∙_}
 use native.Mathlib.Omega.{arith}
 use Prim.Native.Nat.{_+_, _*_, _/_}
-use Rattle.card_map.specs.Free.{lowest, foundBelow}
+use Rattle.card_map.specs.Free.{lowest}
+use Rattle.card_map.specs.Inner.{foundBelow}
 use Rattle.card_map.proofs.Laws.{lowest-within, lowest-past, foundBelow-some, foundBelow-none}
 use borrow.Author.Needs.{needs}
 use Rattle.card_map.proofs.find_free.Statement.{statement}

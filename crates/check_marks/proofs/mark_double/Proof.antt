@@ -5,7 +5,7 @@ use mathlib.Core.Path.{ap, sym}
 use native.Mathlib.Omega.{arith}
 use Rattle.card_layout.specs.Slots.{seconds}
 use Rattle.card_rules.proofs.Views.{seconds-some}
-use Rattle.check_marks.specs.Marks.{runUse, levelUse}
+use Rattle.check_marks.specs.Inner.{runUse, levelUse}
 use Rattle.words.proofs.Answers.{when-not-false}
 use Rattle.check_marks.proofs.Marking.{marks-none, clash-le, did-after, run-in, ran, not-ran}
 use Rattle.check_marks.proofs.Uses.{double-none}

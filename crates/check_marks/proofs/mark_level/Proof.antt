@@ -8,7 +8,7 @@ use borrow.Author.Needs.{needs}
 use Rattle.words.specs.Words.{word}
 use Rattle.words.specs.Sums.{sumTo}
 use Rattle.words.proofs.Sums.{sumTo-zero}
-use Rattle.check_marks.specs.Marks.{Marks, runUse, slotsAt}
+use Rattle.check_marks.specs.Inner.{Marks, runUse, slotsAt}
 use Rattle.words.proofs.Answers.{when-not-true, when-not-false}
 use Rattle.check_marks.proofs.Marking.{marks-none, marks-join, clash-after, sum-more, sum-next}
 use Rattle.check_marks.proofs.mark_level.Statement.{statement}

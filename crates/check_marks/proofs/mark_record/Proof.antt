@@ -6,7 +6,7 @@ use native.Mathlib.Omega.{arith}
 use lib.Dec.{ltb}
 use Rattle.words.specs.Words.{pick}
 use Rattle.words.specs.Sums.{δ}
-use Rattle.check_marks.specs.Marks.{runUse}
+use Rattle.check_marks.specs.Inner.{runUse}
 use Rattle.words.proofs.Answers.{when-not-true, when-not-false}
 use Rattle.check_marks.proofs.Marking.{marks-one, marks-join, clash-one, clash-after, ran, not-ran}
 use Rattle.check_marks.proofs.Uses.{one-at-most}

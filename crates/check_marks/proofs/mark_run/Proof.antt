@@ -6,7 +6,7 @@ use native.Mathlib.Omega.{arith}
 use borrow.Author.Needs.{needs}
 use Rattle.words.specs.Words.{word}
 use Rattle.words.proofs.Sums.{sumTo-zero}
-use Rattle.check_marks.specs.Marks.{Marks, runUse}
+use Rattle.check_marks.specs.Inner.{Marks, runUse}
 use Rattle.words.proofs.Answers.{when-not-true, when-not-false}
 use Rattle.check_marks.proofs.Marking.{marks-none, marks-more, clash, count-more, count-next}
 use Rattle.check_marks.proofs.mark_run.Statement.{statement}

@@ -2,7 +2,7 @@
 use Prim.Native.Nat.{_+_, _≤_}
 use mathlib.Core.Path.{refl}
 use native.Mathlib.Omega.{arith}
-use Rattle.check_marks.specs.Marks.{recordUse, indirectUse}
+use Rattle.check_marks.specs.Inner.{recordUse, indirectUse}
 use Rattle.words.proofs.Answers.{when-not-true, when-not-false}
 use Rattle.check_marks.proofs.Marking.{marks-join, marked-inside, clash-le, clash-after, did-after}
 use Rattle.check_marks.proofs.Uses.{owns-head, record-indirect, record-double}

@@ -2,7 +2,7 @@
 use Prim.Native.Nat.{_<_}
 use native.Mathlib.Omega.{arith}
 use Rattle.file_blocks.proofs.Growth.{nextFree-below}
-use Rattle.dir_entries.specs.Entries.{CanAppend}
+use Rattle.dir_entries.specs.Inner.{CanAppend}
 use Rattle.dir_create.specs.Create.{madeDir}
 use borrow.Author.Needs.{needs}
 use Rattle.dir_create.proofs.make_dir.Statement.{statement}

@@ -4,7 +4,7 @@ use Prim.Native.Nat.{_<_}
 use native.Mathlib.Omega.{arith}
 use Rattle.card_layout.specs.Inode.{decoded}
 use Rattle.card_layout.specs.declared.inode.Decoded.the-variants.{Good}
-use Rattle.file_blocks.specs.Shape.{Sizes}
+use Rattle.file_blocks.specs.Inner.{Sizes}
 use Rattle.dir_answers.specs.declared.Acted.{Acted}
 use Rattle.dir_answers.proofs.Refused.{Refused, plain-refused}
 use Rattle.dir_answers.proofs.Ready.{sizes-whole, below-ready, readable-ready}

@@ -1,7 +1,7 @@
 -- `dir_move::judge_in` meets its contract. A new name that is refused decides (`move-name`), and else the source (`move-rest`). Assumes nothing.
 use mathlib.Core.Path.{sym, ap, _∙_}
 use Rattle.dir_entries.specs.Entries.{whereIs}
-use Rattle.dir_answers.specs.Answers.{placed}
+use Rattle.dir_answers.specs.Inner.{placed}
 use Rattle.dir_answers.specs.declared.Acted.{Acted}
 use Rattle.dir_answers.specs.declared.Placed.the-variants as P
 use Rattle.dir_answers.proofs.Refused.{if-refused, plain-refused}

@@ -1,7 +1,7 @@
 -- `dir_move::judge_source` meets its contract. Each way out is a test of the source; the head's size is the card's. Assumes nothing.
 use mathlib.Core.Path.{sym, ap, _∙_}
 use native.Mathlib.Omega.{arith}
-use Rattle.dir_answers.specs.Answers.{placed}
+use Rattle.dir_answers.specs.Inner.{placed}
 use Rattle.dir_answers.specs.declared.Acted.{Acted}
 use Rattle.dir_answers.proofs.Heads.{head-is}
 use Rattle.dir_answers.proofs.Dirs.{dir-kind}

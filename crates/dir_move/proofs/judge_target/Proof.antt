@@ -3,7 +3,7 @@ use mathlib.Core.Path.{sym, ap, _∙_}
 use native.Mathlib.Omega.{arith}
 use Rattle.card_layout.specs.Inode.{decoded}
 use Rattle.dir_entries.specs.Entries.{whereIs}
-use Rattle.dir_answers.specs.Answers.{placed}
+use Rattle.dir_answers.specs.Inner.{placed}
 use Rattle.dir_answers.specs.declared.Acted.{Acted}
 use Rattle.dir_answers.proofs.Ready.{readable-ready}
 use Rattle.dir_answers.proofs.Heads.{dir-good}

@@ -3,7 +3,7 @@ use mathlib.Core.Path.{refl, sym, ap, _∙_}
 use Prim.Native.Nat.{_<_}
 use native.Mathlib.Omega.{arith}
 use Rattle.card_rules.specs.View.{entries}
-use Rattle.dir_answers.specs.Answers.{placed}
+use Rattle.dir_answers.specs.Inner.{placed}
 use Rattle.dir_answers.specs.declared.Acted.{Acted}
 use Rattle.dir_answers.proofs.Ready.{readable-ready}
 use Rattle.dir_answers.proofs.Heads.{head-is}

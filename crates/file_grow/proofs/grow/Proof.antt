@@ -1,7 +1,7 @@
 -- `file_grow::grow` meets its contract. Four steps, one after the other; each leaves the search no further than the last block. Assumes
 -- nothing.
 use Rattle.file_grow.proofs.Following.{all-steps, after-indirect, after-double, after-level}
-use Rattle.file_grow.specs.Steps.{growingAt}
+use Rattle.file_grow.specs.Inner.{growingAt}
 use Prim.Native.Nat.{_≤_, _<_}
 use native.Mathlib.Omega.{arith}
 use borrow.Author.Needs.{needs}

@@ -1,7 +1,7 @@
 -- `file_grow::grow_data` meets its contract. Three steps, one after the other; each leaves the search no further than the last block. Assumes
 -- nothing.
 use Rattle.file_grow.proofs.Following.{data-steps, after-direct, after-single}
-use Rattle.file_grow.specs.Steps.{growingAt}
+use Rattle.file_grow.specs.Inner.{growingAt}
 use Prim.Native.Nat.{_≤_, _<_}
 use native.Mathlib.Omega.{arith}
 use borrow.Author.Needs.{needs}

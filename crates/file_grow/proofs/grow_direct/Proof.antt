@@ -1,6 +1,6 @@
 -- `file_grow::grow_direct` meets its contract. The loop's invariant: after the turns up to `i` the card, `f` and the record are those of as
 -- many turns of `intoDirect`. The measure is what is left of `e`. Assumes nothing.
-use Rattle.file_grow.specs.Steps.{growingAt}
+use Rattle.file_grow.specs.Inner.{growingAt}
 use Rattle.file_blocks.proofs.Picks.{both}
 use Prim.Native.Nat.{ℕ, _-_, _≤_, min}
 use mathlib.Core.Path.{_≡_, refl, ap, _∙_}

@@ -1,7 +1,7 @@
 -- `file_grow::grow_double` meets its contract. Each way out is a case of `growDouble`. Assumes nothing.
 use mathlib.Core.Path.{sym, _∙_}
 use native.Mathlib.Omega.{arith}
-use Rattle.file_grow.specs.Steps.{growingAt}
+use Rattle.file_grow.specs.Inner.{growingAt}
 use Rattle.file_blocks.proofs.Growth.{nextFree-below, growDouble-past, growDouble-short, growDouble-over}
 use Rattle.file_grow.proofs.Following.{grew-by, double-step}
 use borrow.Author.Needs.{needs}

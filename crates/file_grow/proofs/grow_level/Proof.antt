@@ -4,7 +4,7 @@ use Prim.Native.Nat.{_≤_}
 use mathlib.Core.Path.{sym}
 use native.Mathlib.Omega.{arith}
 use Rattle.card_layout.specs.Slots.{seconds}
-use Rattle.file_grow.specs.Steps.{growingAt}
+use Rattle.file_grow.specs.Inner.{growingAt}
 use Rattle.file_blocks.proofs.Growth.{seconds-up, seconds-most, growLevel-out}
 use borrow.Author.Needs.{needs}
 use Rattle.file_grow.proofs.grow_level.Statement.{statement}

@@ -2,7 +2,7 @@
 use Rattle.file_grow.proofs.Following.{part-step, moved-by}
 use mathlib.Core.Path.{sym}
 use native.Mathlib.Omega.{arith}
-use Rattle.file_grow.specs.Steps.{cursorAt}
+use Rattle.file_grow.specs.Inner.{cursorAt}
 use Rattle.file_blocks.proofs.Growth.{growPart-out}
 use borrow.Author.Needs.{needs}
 use Rattle.file_grow.proofs.grow_part.Statement.{statement}

@@ -6,7 +6,7 @@ use native.Mathlib.Omega.{arith}
 use borrow.Author.Needs.{needs}
 use lib.ListN.{length}
 use Rattle.file_blocks.specs.Taking.{Cursor, intoWord, growRun}
-use Rattle.file_grow.specs.Steps.{cursorAt}
+use Rattle.file_grow.specs.Inner.{cursorAt}
 use Rattle.file_blocks.proofs.Growth.{nextFree-below, growRun-none, growRun-more}
 use Rattle.file_grow.proofs.Following.{moved-by, word-step}
 use Rattle.file_grow.proofs.grow_run.Statement.{statement}

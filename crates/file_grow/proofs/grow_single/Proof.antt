@@ -2,7 +2,7 @@
 use Rattle.file_grow.proofs.Following.{single-step, grew-by}
 use mathlib.Core.Path.{sym}
 use native.Mathlib.Omega.{arith}
-use Rattle.file_grow.specs.Steps.{growingAt}
+use Rattle.file_grow.specs.Inner.{growingAt}
 use Rattle.file_blocks.proofs.Growth.{growSingle-out}
 use borrow.Author.Needs.{needs}
 use Rattle.file_grow.proofs.grow_single.Statement.{statement}

@@ -10,7 +10,7 @@ use lib.ListN.{length}
 use Rattle.words.specs.Runs.{turns}
 use Rattle.words.proofs.Runs.{turns-none}
 use Rattle.file_blocks.specs.Ranges.{partsFrom, partsTo}
-use Rattle.file_grow.specs.Steps.{cursorAt, growingAt}
+use Rattle.file_grow.specs.Inner.{cursorAt, growingAt}
 use Rattle.file_blocks.proofs.Growth.{twofoldTurn, growTwofold-out, from-growPart}
 use Rattle.file_grow.proofs.grow_twofold.Statement.{statement}
 use Rattle.file_grow.proofs.grow_twofold.Tie as tie

@@ -10,7 +10,7 @@ use lib.ListN.{drop, getD}
 use Rattle.words.proofs.Answers.{when-true, when-false}
 use Rattle.card_layout.specs.Entry.{uptoNul}
 use Rattle.card_rules.specs.View.{name}
-use Rattle.check_names.specs.Names.{Last, bucketAt, tag}
+use Rattle.check_names.specs.InnerNames.{Last, bucketAt, tag}
 use Rattle.check_names.proofs.Scanning.{name-in}
 use Rattle.check_names.proofs.Chaining.{Passed, passed-none, passed-more}
 use Rattle.check_names.proofs.directory.alone.Statement.{statement}

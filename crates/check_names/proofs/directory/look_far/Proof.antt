@@ -4,7 +4,7 @@ use mathlib.Core.Path.{sym, ap, _∙_}
 use mathlib.Core.List.{List}
 use Prim.Native.Nat.{ℕ, _-_}
 use lib.ListN.{length}
-use Rattle.check_names.specs.Names.{hash}
+use Rattle.check_names.specs.InnerNames.{hash}
 use Rattle.check_names.proofs.Entries.{name-cut}
 use borrow.Author.Needs.{needs}
 use Rattle.check_names.proofs.directory.look_far.Statement.{statement}

@@ -8,7 +8,7 @@ use mathlib.Core.Logic.{⊎-elim}
 use Prim.Native.Nat.{_≤_, _<_, _-_, _+_}
 use lib.ListN.{length}
 use Rattle.card_layout.proofs.Names.{nul-here, nul-next, nul-end}
-use Rattle.check_names.specs.Names.{hash, hashOn}
+use Rattle.check_names.specs.InnerNames.{hash, hashOn}
 use Rattle.check_names.proofs.Scanning.{left, hash-none, hash-next}
 use Rattle.check_names.proofs.directory.scan.Statement.{statement}
 use Rattle.check_names.proofs.directory.scan.Tie as tie

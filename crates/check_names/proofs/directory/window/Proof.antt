@@ -9,7 +9,7 @@ use Prim.Native.Nat.{ℕ, _≤_, _-_, _+_, _%_, min}
 use lib.ListN.{length}
 use Rattle.words.proofs.Answers.{when-not-true, when-not-false}
 use Rattle.card_rules.specs.View.{name, dataAt}
-use Rattle.check_names.specs.Names.{hash, Chains, Alone, Window}
+use Rattle.check_names.specs.InnerNames.{hash, Chains, Alone, Window}
 use Rattle.check_names.proofs.Scanning.{name-fits}
 use Rattle.check_names.proofs.Chaining.{chains-none, chains-put, window-none, window-more, names-alone}
 use Rattle.check_names.proofs.directory.window.Statement.{statement}

@@ -7,7 +7,7 @@ use native.Mathlib.Decide.{decLt}
 use borrow.Author.Needs.{needs}
 use Rattle.words.proofs.Answers.{when-not-true, when-not-false, when-eqb}
 use Rattle.card_map.specs.Bits.{mapBit}
-use Rattle.check_walk.specs.Steps.{ownAt}
+use Rattle.check_walk.specs.Inner.{ownAt}
 use Rattle.check_walk.proofs.judge.bits.Statement.{statement}
 use Rattle.check_walk.proofs.judge.bits.Tie as tie
 

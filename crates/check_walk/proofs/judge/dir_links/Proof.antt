@@ -4,7 +4,7 @@ use native.Mathlib.Omega.{arith}
 use borrow.Author.Needs.{needs}
 use denote.Ref.{now}
 use Rattle.check_marks.proofs.Heads.{head-links}
-use Rattle.check_walk.specs.Steps.{Kept}
+use Rattle.check_walk.specs.Inner.{Kept}
 use Rattle.check_walk.proofs.Visiting.{head-kids}
 use Rattle.check_walk.proofs.Families.{dir-tally, kept-few}
 use Rattle.check_walk.proofs.judge.dir_links.Statement.{statement}

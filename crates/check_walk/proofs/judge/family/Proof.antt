@@ -10,7 +10,7 @@ use denote.Ref.{now}
 use Rattle.card_layout.specs.Inode.{kind}
 use Rattle.card_rules.specs.View.{kids, entry, dataAt}
 use Rattle.check_names.proofs.Entries.{nowhere-block}
-use Rattle.check_walk.specs.Steps.{Good}
+use Rattle.check_walk.specs.Inner.{Good}
 use Rattle.check_walk.proofs.Families.{First, first-none, first-dir, first-other, first-all, kid-inside}
 use Rattle.check_walk.proofs.judge.family.Statement.{statement}
 use Rattle.check_walk.proofs.judge.family.Tie as tie

@@ -7,7 +7,7 @@ use lib.ListN.{length, set, length-set}
 use denote.Ref.{now}
 use Rattle.words.specs.Runs.{puts}
 use Rattle.words.proofs.Runs.{puts-none, puts-more}
-use Rattle.check_walk.specs.Steps.{started}
+use Rattle.check_walk.specs.Inner.{started}
 use Rattle.check_walk.proofs.judge.start.Statement.{statement}
 use Rattle.check_walk.proofs.judge.start.Tie as tie
 

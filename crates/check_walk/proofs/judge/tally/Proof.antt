@@ -4,7 +4,7 @@ use native.Mathlib.Omega.{arith}
 use borrow.Author.Count.{below-more}
 use lib.ListN.{getD}
 use Rattle.words.proofs.Answers.{when-not-true, when-not-false}
-use Rattle.check_walk.specs.Steps.{seenAt, Tally}
+use Rattle.check_walk.specs.Inner.{seenAt, Tally}
 use Rattle.check_walk.proofs.judge.tally.Statement.{statement}
 use Rattle.check_walk.proofs.judge.tally.Tie as tie
 

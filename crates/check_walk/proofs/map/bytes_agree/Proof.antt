@@ -5,12 +5,13 @@ use Prim.Native.Nat.{ℕ, _+_, _-_, _*_, _≤_, _<_}
 use native.Mathlib.Omega.{arith}
 use native.Mathlib.Decide.{decLt}
 use lib.ListN.{getD}
-use Rattle.words.specs.Words.{byte, When}
+use Rattle.words.specs.Words.{byte}
+use Rattle.words.specs.Inner.{When}
 use Rattle.words.proofs.Answers.{when-not-true, when-not-false}
 use Rattle.card_map.specs.Bits.{mapBit}
 use Rattle.card_map.proofs.Bits.{bitOf}
 use Rattle.card_map.proofs.Map.{bit-at}
-use Rattle.check_walk.specs.Steps.{ownAt}
+use Rattle.check_walk.specs.Inner.{ownAt}
 use Rattle.check_walk.proofs.map.bytes_agree.Statement.{statement}
 use Rattle.check_walk.proofs.map.bytes_agree.Tie as tie
 

@@ -6,7 +6,7 @@ use Prim.Native.Nat.{ℕ, _+_, _-_, _≤_, _<_}
 use native.Mathlib.Omega.{arith}
 use borrow.Author.Count.{below-more}
 use lib.ListN.{getD}
-use Rattle.words.specs.Words.{Tells}
+use Rattle.words.specs.Inner.{Tells}
 use Rattle.card_map.proofs.Bits.{bitOf}
 use Rattle.card_map.proofs.Groups.{bits-of-zero}
 use Rattle.check_walk.proofs.Counting.{bits-of-ones}

@@ -5,7 +5,7 @@ use native.Mathlib.Omega.{arith}
 use borrow.Author.Count.{below-more}
 use Rattle.card_map.specs.Bits.{mapBit}
 use Rattle.card_map.proofs.Map.{bit-below}
-use Rattle.check_walk.specs.Steps.{ownAt}
+use Rattle.check_walk.specs.Inner.{ownAt}
 use Rattle.check_walk.proofs.map.rest_agrees.Statement.{statement}
 use Rattle.check_walk.proofs.map.rest_agrees.Tie as tie
 

@@ -5,7 +5,7 @@ use Prim.Native.Nat.{ℕ, _+_, _*_}
 use denote.Ref.{now}
 use lib.ListN.{length-set, set}
 use borrow.Author.Needs.{needs}
-use Rattle.check_walk.specs.Steps.{fresh, again}
+use Rattle.check_walk.specs.Inner.{fresh, again}
 use Rattle.check_walk.proofs.queue.note.Statement.{statement}
 use Rattle.check_walk.proofs.queue.note.Tie as tie
 

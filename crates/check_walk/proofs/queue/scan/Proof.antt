@@ -6,7 +6,7 @@ use Prim.Native.Nat.{_-_, _≤_, _<_}
 use denote.Ref.{now}
 use Rattle.card_rules.specs.View.{kids, dataAt}
 use Rattle.check_names.proofs.Entries.{nowhere-block}
-use Rattle.check_walk.specs.Steps.{past}
+use Rattle.check_walk.specs.Inner.{past}
 use Rattle.check_walk.proofs.Queueing.{room, Noting, noting-none, noting-more, noting-many, noting-all}
 use Rattle.check_walk.proofs.queue.scan.Statement.{statement}
 use Rattle.check_walk.proofs.queue.scan.Tie as tie

@@ -3,7 +3,7 @@ use denote.Ref.{now}
 use borrow.Author.Needs.{needs}
 use Rattle.words.proofs.Answers.{when-not-true, when-not-false}
 use Rattle.check_marks.proofs.Heads.{head-of, inode-fits}
-use Rattle.check_walk.specs.Steps.{ill, taken, bad-dir}
+use Rattle.check_walk.specs.Inner.{ill, taken, bad-dir}
 use Rattle.check_walk.proofs.Visiting.{space-kept, inode-met, read-met, met-same}
 use Rattle.check_walk.proofs.visit.meet.Statement.{statement}
 use Rattle.check_walk.proofs.visit.meet.Tie as tie

@@ -5,7 +5,7 @@ use lib.ListN.{getD}
 use denote.Ref.{now}
 use borrow.Author.Needs.{needs}
 use Rattle.check_marks.proofs.Heads.{bad-no-inode}
-use Rattle.check_walk.specs.Steps.{ill}
+use Rattle.check_walk.specs.Inner.{ill}
 use Rattle.check_walk.proofs.Queueing.{queue-le}
 use Rattle.check_walk.proofs.Visiting.{n-inside, wrong}
 use Rattle.check_walk.proofs.visit.visit.Statement.{statement}

@@ -6,7 +6,7 @@ use mathlib.Core.Path.{_≡_, refl, _∙_, subst}
 use Prim.Native.Nat.{ℕ, _-_}
 use lib.ListN.{length}
 use denote.Ref.{now}
-use Rattle.check_walk.specs.Steps.{Progress}
+use Rattle.check_walk.specs.Inner.{Progress}
 use Rattle.check_walk.proofs.Queueing.{queue-le}
 use Rattle.check_walk.proofs.Visiting.{space-kept, ends-at, ends-bad}
 use Rattle.check_walk.proofs.visit.walk.Statement.{statement}

@@ -1,6 +1,6 @@
 -- `dir_answers::judging::with_place` meets its contract: a refusal stays (`if-refused`). Assumes nothing.
 use mathlib.Core.Path.{sym, ap}
-use Rattle.dir_answers.specs.Answers.{placed}
+use Rattle.dir_answers.specs.Inner.{placed}
 use Rattle.dir_answers.specs.declared.Acted.{Acted}
 use Rattle.dir_answers.specs.declared.Placed.the-variants.{At, Refused}
 use Rattle.dir_answers.proofs.Refused.{if-refused, others-refused}

@@ -1,29 +1,31 @@
--- The steps of the check. Scratch of nb blocks, 4 nb words: from 0 the queue of the inodes met; then room for names, which takes the queue's free end too;
--- from 2 nb how often each block was named (one more for the root); from 3 nb how often each block is in use so far.
+-- Inner: the steps of the check. Scratch of nb blocks, 4 nb words: from 0 the queue of the inodes met; then room for names, which takes the queue's free end
+-- too; from 2 nb how often each block was named (one more for the root); from 3 nb how often each block is in use so far.
 use Prim.Native.Nat.{ℕ, zero, suc, _+_, _-_, _*_, _/_, _≤_, _<_}
 use mathlib.Core.Path.{_≡_}
 use mathlib.Core.Bool.{Bool}
 use mathlib.Core.List.{List}
 use lib.ListN.{length, getD, take, drop, set}
-use Rattle.words.specs.Words.{When}
+use Rattle.words.specs.Inner.{When}
 use Rattle.words.specs.Sums.{δ, sumTo, cnt}
 use Rattle.card_layout.specs.Sizes.{fewest, most, blockSize, entrySize, mapBits}
 use Rattle.words.specs.Runs.{puts}
 use Rattle.card_layout.specs.Super.{blocks, maps, unused}
 use Rattle.card_layout.specs.Inode.{kind, links, count, decoded}
 use Rattle.card_layout.specs.declared.inode.FileType.{FileType}
-use Rattle.card_layout.specs.declared.inode.FileType.the-variants as kinds
 use Rattle.card_layout.specs.declared.inode.Head.{Head}
-use Rattle.card_layout.specs.declared.inode.Decoded.the-variants as heads
 use Rattle.card_map.specs.Bits.{mapBit, freeBits}
 use Rattle.card_rules.specs.View.{entry, kids, kid, timesNamed, owns, naming, uses, subs}
 use Rattle.card_rules.specs.Whole.{Sized, Reached, Inode, Dir, Whole}
-use Rattle.check_marks.specs.Marks.{Clash}
-use Rattle.check_names.specs.Reading.{Readable}
+use Rattle.check_marks.specs.Inner.{Clash}
+use Rattle.check_names.specs.InnerReading.{Readable}
 use Rattle.check_walk.specs.declared.queue.End.{End}
 use Rattle.check_walk.specs.declared.queue.End.the-variants.{At, Bad}
 use Rattle.check_walk.specs.declared.judge.Kin.{Kin}
 use Rattle.check_walk.specs.declared.judge.Kin.the-variants.{Subs, Stray}
+use Rattle.check_walk.specs.declared.judge.Verdict.{Verdict}
+use Rattle.check_walk.specs.declared.judge.Verdict.the-variants.{Yes, No, Unknown}
+use Rattle.card_layout.specs.declared.inode.FileType.the-variants as kinds
+use Rattle.card_layout.specs.declared.inode.Decoded.the-variants as heads
 
 abbrev pub pos : ℕ → ℕ
 pos zero = 0
@@ -218,3 +220,9 @@ started s nb f = set (set (puts (set s (3 * nb) 1) (λ i. 3 * nb + (2 + i)) (λ 
 pub record Seen (img s : List ℕ) (nb : ℕ) : Type 0 where
   pub yes : (m : ℕ) → m < nb → 0 < seenAt s nb m → Reached img m
   pub no : (m : ℕ) → Reached img m → (m < nb) × (0 < seenAt s nb m)
+
+-- what judging a card of right size says of it and of two numbers
+abbrev pub Judged : Verdict → List ℕ → ℕ → ℕ → Type 0
+Judged Yes img a b = Whole img × Reached img a × Reached img b
+Judged No img a b = Whole img → ⊥
+Judged Unknown img a b = Whole img × (Reached img a → Reached img b → ⊥)

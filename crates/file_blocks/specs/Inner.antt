@@ -1,8 +1,10 @@
--- What the functions that change a file's blocks ask of a card: its size, and nothing of what it holds.
+-- Inner: what the functions that change a file's blocks ask of a card: its size, and nothing of what it holds.
 use Prim.Native.Nat.{ℕ, _+_, _-_, _*_, _≤_, _<_}
 use mathlib.Core.List.{List}
 use lib.ListN.{length}
 use Rattle.card_layout.specs.Sizes.{fewest, most, blockSize}
+use Rattle.file_blocks.specs.Ranges.{partFrom, partTo, partsFrom, partsTo}
+use Rattle.file_blocks.specs.Bytes.{afterOf, firstOf}
 
 -- a card of nb blocks, as far as sizes go
 pub record Sizes (img : List ℕ) (nb : ℕ) : Type 0 where
@@ -31,3 +33,16 @@ RunAsks img nb at i e off end R =
 abbrev pub PartAsks : List ℕ → ℕ → ℕ → ℕ → ℕ → Type 0 → Type 0
 PartAsks img nb off end q R =
     (blockSize * nb ≤ length img) × (q < 1024) × (off < blockSize * (2060 + 1024 * q)) × (off ≤ end) × (end ≤ 4294967295) × R
+
+-- the blocks that second-level block q lists, and the second-level blocks that it touches: from, up to
+abbrev pub levelFrom : ℕ → ℕ → ℕ
+levelFrom off q = partFrom (firstOf off) q
+
+abbrev pub levelTo : ℕ → ℕ → ℕ
+levelTo end q = partTo (afterOf end) q
+
+abbrev pub levelsFrom : ℕ → ℕ
+levelsFrom off = partsFrom (firstOf off)
+
+abbrev pub levelsTo : ℕ → ℕ
+levelsTo end = partsTo (afterOf end)

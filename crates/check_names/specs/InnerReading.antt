@@ -1,4 +1,4 @@
--- What can be read of an inode: the blocks that it points to are on the card.
+-- Inner: what can be read of an inode: the blocks that it points to are on the card.
 use Prim.Native.Nat.{ℕ, _+_, _*_, _≤_, _<_}
 use mathlib.Core.Path.{_≡_}
 use mathlib.Core.List.{List}

@@ -1,16 +1,16 @@
--- The names of a directory, and chains of names of one hash in lent words.
+-- Inner: the names of a directory, and chains of names of one hash in lent words.
 use Prim.Native.Nat.{ℕ, _+_, _-_, _*_, _/_, _%_, _≤_, _<_}
 use mathlib.Core.Path.{_≡_}
 use mathlib.Core.Bool.{Bool}
 use mathlib.Core.List.{List, [], _∷_}
 use lib.ListN.{length, getD}
-use Rattle.words.specs.Words.{When}
+use Rattle.words.specs.Inner.{When}
 use Rattle.card_layout.specs.Sizes.{blockSize, entrySize}
 use Rattle.card_layout.specs.Inode.{count}
 use Rattle.card_layout.specs.Entry.{Name}
 use Rattle.card_rules.specs.View.{name, entries}
 use Rattle.card_rules.specs.Whole.{Names}
-use Rattle.check_names.specs.Reading.{Readable}
+use Rattle.check_names.specs.InnerReading.{Readable}
 
 -- ---- hashes: any function of the name would do, and no law asks more of it
 

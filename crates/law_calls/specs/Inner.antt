@@ -1,5 +1,4 @@
--- What a call that is done leaves (RULES, "What calls do"): a whole card, with the same inodes, one more or one less, on which only the inodes that the call
--- names have changed, and no file's bytes but by a write or a length change of its own.
+-- Inner: what each call that is done is shown to leave, from which the promises follow; no part of what a call promises.
 use Prim.Native.Nat.{ℕ, _<_}
 use mathlib.Core.Path.{_≡_}
 use mathlib.Core.Logic.{_≢_}
@@ -7,25 +6,16 @@ use mathlib.Core.List.{List, _∷_}
 use Rattle.words.specs.Words.{Bytes}
 use Rattle.words.specs.Sums.{cnt, without}
 use Rattle.card_layout.specs.Super.{blocks}
-use Rattle.card_layout.specs.Inode.{size, kind, count}
-use Rattle.card_rules.specs.View.{fileByte}
-use Rattle.card_rules.specs.Places.{Place, held, InUse}
+use Rattle.card_layout.specs.Inode.{kind}
 use Rattle.card_rules.specs.Whole.{Sound, Tree}
-use Rattle.card_rules.proofs.Frames.{SameFile}
+use Rattle.card_rules.specs.Same.{SameFile}
+use Rattle.law_calls.specs.SameData.{SameData}
 
 -- the listing of inodes after a call, from the one before
 pub data Relisted (l : List ℕ) : List ℕ → Type 0 where
   same : Relisted l l
   more : (i : ℕ) → cnt i l ≡ 0 → Relisted l (i ∷ l)
   less : (c : ℕ) → 0 < cnt c l → Relisted l (without c l)
-
--- file m has the kind, length, blocks and bytes that it had
-pub record SameData (img out : List ℕ) (m : ℕ) : Type 0 where
-  pub kind-is : kind out m ≡ kind img m
-  pub size-is : size out m ≡ size img m
-  pub count-is : count out m ≡ count img m
-  pub places : (q : Place) → InUse img m q → held out m q ≡ held img m q
-  pub kept : (o : ℕ) → o < size img m → fileByte out m o ≡ fileByte img m o
 
 -- l lists the inodes before; `named` are those that the call names, `written` those whose bytes it may change
 pub record Frame (l img out named written : List ℕ) : Type 0 where

@@ -1,4 +1,4 @@
--- What the steps of growth answer.
+-- Inner: what the steps of growth answer.
 use Prim.Native.Nat.{ℕ}
 use mathlib.Core.Path.{_≡_}
 use mathlib.Core.List.{List}

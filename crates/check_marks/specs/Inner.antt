@@ -1,11 +1,12 @@
--- Marking the blocks that an inode uses. Word b of the marks u is how often block b was found in use so far; there are as many words as blocks.
+-- Inner: marking the blocks that an inode uses. Word b of the marks u is how often block b was found in use so far; there are as many words as blocks.
 use Prim.Native.Nat.{ℕ, _+_, _-_, _*_, _≤_, _<_, min}
 use mathlib.Core.Path.{_≡_}
 use mathlib.Core.Bool.{Bool}
 use mathlib.Core.List.{List}
 use lib.Dec.{ltb}
 use lib.ListN.{length, getD, set}
-use Rattle.words.specs.Words.{pick, word, When}
+use Rattle.words.specs.Words.{pick, word}
+use Rattle.words.specs.Inner.{When}
 use Rattle.words.specs.Sums.{δ, sumTo}
 use Rattle.card_layout.specs.Sizes.{most, blockSize}
 use Rattle.card_layout.specs.Inode.{Shape, count, indirect, double}

@@ -1,0 +1,1 @@
+// What is promised, and that it holds. There is no code here.
