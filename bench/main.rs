@@ -26,14 +26,23 @@ mod check;
 mod device;
 #[path = "../tests/standin/dirs.rs"]
 mod dirs;
+#[allow(dead_code)]
+#[path = "../tests/files/expect.rs"]
+mod expect;
 #[path = "../tests/standin/files.rs"]
 mod files;
+#[path = "../tests/files/gap.rs"]
+mod gap;
 #[path = "../tests/files/library.rs"]
 mod library;
+#[allow(dead_code)]
+#[path = "../tests/files/look.rs"]
+mod look;
 mod measure;
 mod unchanged;
 
 use calls::{by_library, by_nobody, by_plain, inodes, Said};
+use gap::Gap;
 use measure::Measure;
 use oracle::image::same_but_padding;
 use oracle::Call;
@@ -114,9 +123,20 @@ fn rust(measure: &mut Measure, case: &str, image: &[u8], calls: &[Call], ours: &
     let mut left = Left::new(image, calls);
     let opened = Opened::new(std::mem::take(&mut left.image), calls);
     measure.part(case, "rust", &mut || opened.put(calls, &mut left.buf, &mut left.said));
-    let after = opened.close();
+    let mut after = opened.close();
     assert_eq!(ours.said, left.said, "{}: the Rust's answers", case);
+    mend(image, calls, &mut after);
     let mut records = oracle::image::inodes(image);
     records.extend(oracle::image::inodes(&ours.image));
     assert_eq!(same_but_padding(&ours.image, &after, records), Ok(()), "{}: the card that the Rust leaves", case);
+}
+
+/// Where the Rust's bytes are others by docs/DIFFERENCES.md they are set to RULES'. Only a call alone changes a length.
+#[inline(never)]
+fn mend(image: &[u8], calls: &[Call], after: &mut [u8]) {
+    if let [call @ (Call::Write { .. } | Call::Resize { .. })] = calls {
+        if let Some(gap) = Gap::before(image, call) {
+            gap.after(after).expect("the Rust's card");
+        }
+    }
 }

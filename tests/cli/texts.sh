@@ -100,13 +100,18 @@ done_ put card.img empty /
 is "one block" "/empty: 1 block" "$("$sfs" map card.img empty | head -n 1)"
 is "two blocks" "/d/f: 2 blocks" "$("$sfs" map card.img d/f | head -n 1)"
 
-# What growth can show is said, and is so.
-"$sfs" resize --help | tr '\n' ' ' | grep -qF 'them, also in another file' || fail "resize --help"
+# What growth shows is said, and is so: in a block that was another file's, and of a file that was shortened.
+"$sfs" resize --help | tr '\n' ' ' | grep -qF 'no file shows them' || fail "resize --help"
 done_ format -f card.img 64K >/dev/null
 echo "a stranger's words" >secret
 done_ put card.img secret /
 done_ rm card.img secret
 printf A | done_ put card.img - /mine
 done_ resize card.img mine 19
-is "growth within a block" "A stranger's words" "$("$sfs" cat card.img mine)"
+is "growth within a block" "A$(printf '%18s' | tr ' ' .)" "$("$sfs" cat card.img mine | tr '\0' .)"
+done_ put -f card.img secret mine
+done_ resize card.img mine 8
+done_ resize card.img mine 12
+is "shortened, then lengthened" "a strang...." "$("$sfs" cat card.img mine | tr '\0' .)"
+grep -qa " words" card.img || fail "what was cut off, beyond the new length, is not on the card"
 echo "$asked answers as expected"

@@ -14,6 +14,8 @@ mod edges;
 #[allow(dead_code)]
 #[path = "../files/expect.rs"]
 mod expect;
+#[path = "../files/gap.rs"]
+mod gap;
 mod lent;
 #[path = "../files/library.rs"]
 mod library;
@@ -43,7 +45,10 @@ fn main() {
                 println!("{:>8} {:>2}: {:>8} times", call, status, times);
             }
             let calls: u64 = pair.tally.values().sum();
-            println!("dirs_test: {} calls agree, {} of them with the Rust too: {}", calls, pair.asked, told);
+            println!(
+                "dirs_test: {} calls agree, {} of them with the Rust too ({} but for a gap): {}",
+                calls, pair.asked, pair.gaps, told
+            );
         }
         Err(difference) => {
             println!("dirs_test: seed {} case {}: {}", options.seed, room::CASE.load(Ordering::Relaxed), difference);

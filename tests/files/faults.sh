@@ -2,7 +2,7 @@
 # Do these tests notice a fault? Each line below is one in the file of tests/standin that it names first, as
 # tests/faults.sh says. files_test must find every one; where it does not, that is printed.
 # By the rustc of PATH, for this machine; some four minutes. FILES_SECONDS: time for the days of one fault. FILES_ONLY:
-# one part of the tests alone (edges, bytes, refusals, maps or days). An argument: only the faults that hold this text.
+# one part of the tests alone (edges, bytes, growth, refusals, maps or days). An argument: only the faults that hold this text.
 set -euo pipefail
 here=$(cd "$(dirname "${BASH_SOURCE[0]}")" && pwd)
 root=$(cd "$here/../.." && pwd)
@@ -20,10 +20,19 @@ test=("$out/files_test" --seconds "${FILES_SECONDS:-20}")
 [ -z "${FILES_ONLY:-}" ] || test+=(--only "$FILES_ONLY")
 each_fault "${1:-}" "${test[@]}" <<'END'
 files: if old < DIRECT && new >= DIRECT { ==> if old < 13 && new >= 13 { ;; usize::from(b >= DIRECT) ==> usize::from(b > DIRECT) ;; if old >= DIRECT && new < DIRECT { ==> if old > DIRECT && new <= DIRECT { ;; if old >= DIRECT && new < DIRECT { ==> if old > DIRECT && new <= DIRECT {
-files: zero(image, file, size, len); ==> zero(image, file, size, new * BLOCK);
-files: zero(image, file, size, len); ==> zero(image, file, old * BLOCK, len);
-files: zero(image, file, size, len); ==> zero(image, file, size, len.min(size + (1 << 20)));
-files:     put(image, file, len);\n ==>     if new == old && len > size {\n zero(image, file, size, len);\n }\n put(image, file, len);\n
+files: zero(image, file, size, len as usize); ==> if (len as usize + BLOCK - 1) / BLOCK > (size + BLOCK - 1) / BLOCK {\n zero(image, file, size, len as usize);\n }
+files: zero(image, file, size, offset as usize); ==> if (end as usize + BLOCK - 1) / BLOCK > (size + BLOCK - 1) / BLOCK {\n zero(image, file, size, offset as usize);\n }
+files: zero(image, file, size, offset as usize); ==> 
+files: zero(image, file, size, offset as usize); ==> zero(image, file, size, (offset as usize).min((size + BLOCK - 1) / BLOCK * BLOCK));
+files: zero(image, file, size, offset as usize); ==> zero(image, file, size, (offset as usize).saturating_sub(1));
+files: zero(image, file, size, offset as usize); ==> zero(image, file, size, (end as usize + BLOCK - 1) / BLOCK * BLOCK);
+files: zero(image, file, size, len as usize); ==> 
+files: zero(image, file, size, len as usize); ==> if len as usize > size {\n zero(image, file, size, (len as usize + BLOCK - 1) / BLOCK * BLOCK);\n }
+files: zero(image, file, size, len as usize); ==> zero(image, file, (size + BLOCK - 1) / BLOCK * BLOCK, len as usize);
+files: zero(image, file, size, len as usize); ==> zero(image, file, size + 1, len as usize);
+files: zero(image, file, size, len as usize); ==> zero(image, file, size, (len as usize).min((size + BLOCK - 1) / BLOCK * BLOCK));
+files: zero(image, file, size, len as usize); ==> zero(image, file, size, (len as usize).min(size + (1 << 20)));
+files: zero(image, file, size, len as usize); ==> if size < (len as usize) {\n zero(image, file, size, len as usize);\n } else {\n zero(image, file, len as usize, (len as usize + BLOCK - 1) / BLOCK * BLOCK);\n }
 files: if taken > unused { ==> if new - old > unused {
 files: if taken > unused { ==> if taken >= unused {
 files: image[MAP + block / 8] |= 1 << (block % 8); ==> image[MAP + block / 8] |= 0;
@@ -48,9 +57,9 @@ files: give(image, word(image, at)); ==> give(image, word(image, at));\n put(ima
 files: let block = block as usize;\n ==> let block = block as usize;\n image[block * BLOCK..][..BLOCK].fill(0);\n
 files:     Ok((end - begin) as u32) ==>     Ok((end - begin) as u32 + u32::from(end > begin && end == size as usize))
 files:     Ok((end - begin) as u32) ==>     buf[end - begin..].fill(0);\n    Ok((end - begin) as u32)
-files: if u64::from(word(image, file)) < end { ==> if u64::from(word(image, file)) < end && u64::from(word(image, file)) != offset {
-files: if u64::from(word(image, file)) < end { ==> if u64::from(word(image, file)) < end && !data.is_empty() {
-files: if u64::from(word(image, file)) < end { ==> if u64::from(word(image, file)) != end {
+files: if (size as u64) < end { ==> if (size as u64) < end && size as u64 != offset {
+files: if (size as u64) < end { ==> if (size as u64) < end && !data.is_empty() {
+files: if (size as u64) < end { ==> if (size as u64) != end {
 files: offset.checked_add(data.len() as u64).ok_or(INVALID_PARAM)? ==> offset.wrapping_add(data.len() as u64)
 files: if len > u64::from(u32::MAX) { ==> if len >= u64::from(u32::MAX) {
 files: if len > u64::from(u32::MAX) { ==> if false {

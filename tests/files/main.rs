@@ -1,8 +1,9 @@
 //! files_test: read, write and resize of libsfs.a beside the unchanged Rust, compared after every call.
 //!
-//!     files_test [--seed S] [--days N] [--seconds T] [--long] [--only edges|bytes|refusals|maps|days] [--day D]
+//!     files_test [--seed S] [--days N] [--seconds T] [--long] [--day D]
+//!         [--only edges|bytes|growth|refusals|maps|days]
 //!
-//! The edges, bytes, refusals and maps are fixed; --long takes all pairs of lengths at the edges. Then days of random calls are
+//! The edges, bytes, growths, refusals and maps are fixed; --long takes all pairs of lengths at the edges. Then days of random calls are
 //! run until N are done or T seconds have gone. --day runs one day again. A difference is printed with its case and
 //! ends the program with 1.
 
@@ -10,10 +11,13 @@ mod bytes;
 mod days;
 mod edges;
 mod expect;
+mod gap;
+mod growth;
 mod lent;
 mod library;
 mod look;
 mod maps;
+mod model;
 mod pair;
 mod refusals;
 mod starts;
@@ -35,7 +39,8 @@ fn main() {
             for ((call, status), times) in &pair.tally {
                 println!("{:>6} {:>2}: {:>8} times", call, status, times);
             }
-            println!("files_test: {} calls agree: {}", pair.tally.values().sum::<u64>(), told);
+            let calls: u64 = pair.tally.values().sum();
+            println!("files_test: {} calls agree ({} but for a gap): {}", calls, pair.gaps, told);
         }
         Err(difference) => {
             println!("files_test: seed {} case {}: {}", options.seed, room::CASE.load(Ordering::Relaxed), difference);
@@ -48,6 +53,9 @@ fn run(options: &Options, pair: &mut Pair) -> Result<String, String> {
     let mut told = Vec::new();
     if options.wants("bytes") {
         told.push(format!("{} cases of bytes", bytes::run(pair, options.seed)?));
+    }
+    if options.wants("growth") {
+        told.push(format!("{} growths", growth::run(pair, options.seed)?));
     }
     if options.wants("refusals") {
         told.push(format!("{} refusals", refusals::run(pair, options.seed)?));

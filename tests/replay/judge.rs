@@ -32,11 +32,13 @@ pub struct Judge {
     pub tree: Tree,
     /// How often each number was told, by the Rust and by RULES alone.
     pub tally: BTreeMap<u32, [usize; 2]>,
+    /// How many calls grew a file within its last block, where the Rust's bytes are others.
+    pub gaps: usize,
 }
 
 impl Judge {
     pub fn new() -> Judge {
-        Judge { image: Vec::new(), tree: Tree::default(), tally: BTreeMap::new() }
+        Judge { image: Vec::new(), tree: Tree::default(), tally: BTreeMap::new(), gaps: 0 }
     }
 
     pub fn blocks(&self) -> usize {
@@ -97,6 +99,7 @@ impl Judge {
             Call::Create { .. } if done => Some(told.words[0]),
             _ => None,
         };
+        self.gaps += usize::from(done && mend.has_gap());
         mend.after(&mut self.image, done, made)?;
         if let Some(len) = name {
             told.words[0] = len;

@@ -9,6 +9,8 @@ mod decide;
 #[path = "../files/expect.rs"]
 mod expect;
 mod frame;
+#[path = "../files/gap.rs"]
+mod gap;
 mod judge;
 #[allow(dead_code)]
 #[path = "../files/look.rs"]
@@ -46,9 +48,10 @@ fn main() {
     }
     let alone: usize = judge.tally.values().map(|by| by[1]).sum();
     println!(
-        "record: {} cards, {} calls, {} of them by the Rust",
+        "record: {} cards, {} calls, {} of them by the Rust ({} but for a gap)",
         recording.cards,
         recording.calls,
-        recording.calls - alone
+        recording.calls - alone,
+        judge.gaps
     );
 }

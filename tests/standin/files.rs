@@ -20,8 +20,11 @@ pub fn read(image: &[u8], inode: u32, offset: u64, buf: &mut [u8]) -> Result<u32
 pub fn write(image: &mut [u8], inode: u32, offset: u64, data: &[u8]) -> Result<u32, u32> {
     let file = file(image, inode)?;
     let end = offset.checked_add(data.len() as u64).ok_or(INVALID_PARAM)?;
-    if u64::from(word(image, file)) < end {
+    let size = word(image, file) as usize;
+    if (size as u64) < end {
         set_length(image, file, end)?;
+        // The gap; what comes after it is written next.
+        zero(image, file, size, offset as usize);
     }
     store(image, file, offset as usize, data);
     Ok(data.len() as u32)
@@ -29,7 +32,10 @@ pub fn write(image: &mut [u8], inode: u32, offset: u64, data: &[u8]) -> Result<u
 
 pub fn resize(image: &mut [u8], inode: u32, len: u64) -> Result<(), u32> {
     let file = file(image, inode)?;
-    set_length(image, file, len)
+    let size = word(image, file) as usize;
+    set_length(image, file, len)?;
+    zero(image, file, size, len as usize);
+    Ok(())
 }
 
 /// Where the record stands, if it is not a directory's.
@@ -61,12 +67,13 @@ pub fn store(image: &mut [u8], file: usize, at: usize, data: &[u8]) {
     }
 }
 
-/// The new length of a file or directory, with the blocks that it takes or frees.
+/// The new length of a file or directory, with the blocks that it takes or frees. What is new of it holds what it held:
+/// the caller zeroes or writes it.
 pub fn set_length(image: &mut [u8], file: usize, len: u64) -> Result<(), u32> {
     if len > u64::from(u32::MAX) {
         return Err(INVALID_PARAM);
     }
-    let (size, len) = (word(image, file) as usize, len as usize);
+    let len = len as usize;
     let (old, new) = (word(image, file + COUNT_AT) as usize, (len + BLOCK - 1) / BLOCK);
     if new > old {
         let unused = word(image, UNUSED_AT) as usize;
@@ -77,7 +84,6 @@ pub fn set_length(image: &mut [u8], file: usize, len: u64) -> Result<(), u32> {
         grow(image, file, old, new);
         put(image, UNUSED_AT, unused - taken);
         put(image, file + COUNT_AT, new);
-        zero(image, file, size, len);
     } else if new < old {
         shrink(image, file, old, new);
         let unused = word(image, UNUSED_AT) as usize;
@@ -163,6 +169,7 @@ pub fn release(image: &mut [u8], file: usize, old: usize, new: usize) {
     }
 }
 
+/// Nothing where the file was as long already.
 fn zero(image: &mut [u8], file: usize, begin: usize, end: usize) {
     let mut pieces = Pieces::new(file, begin, end);
     while let Some((at, len)) = pieces.next(image) {

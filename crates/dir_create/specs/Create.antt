@@ -14,7 +14,7 @@ use Rattle.card_layout.specs.declared.inode.Head.{Head}
 use Rattle.card_layout.specs.declared.inode.DiskINode.{DiskINode}
 use Rattle.card_map.specs.Free.{taken}
 use Rattle.file_blocks.specs.Taking.{nextFree}
-use Rattle.file_requests.specs.Resizing.{resized}
+use Rattle.file_requests.specs.Resizing.{fitted}
 use Rattle.file_requests.specs.Requests.{recordWith}
 use Rattle.dir_entries.specs.Entries.{entryPut, appended}
 use Rattle.dir_entries.specs.Names.{dot, dots}
@@ -59,7 +59,7 @@ bareDir = withLinks (newInode Dir) 2
 
 unfoldable pub emptyDir : ℕ → ℕ → ℕ → List ℕ → List ℕ
 emptyDir nb i p img =
-    entryPut nb i 1 (entryOf p dots) (entryPut nb i 0 (entryOf i dot) (resized nb i bareDir 520 (encoded img i bareDir)))
+    entryPut nb i 1 (entryOf p dots) (entryPut nb i 0 (entryOf i dot) (fitted nb i bareDir 520 (encoded img i bareDir)))
 
 -- "a directory's creation raises the parent's links"
 unfoldable pub madeDir : ℕ → ℕ → DiskINode → List ℕ → List ℕ → List ℕ

@@ -10,7 +10,7 @@ ghost use Rattle.card_layout.specs.Inode.{encoded};
 ghost use Rattle.card_map.specs.Free.{taken};
 ghost use Rattle.card_rules.specs.Whole.{Reached, Whole};
 ghost use Rattle.file_blocks.specs.Inner.{Sizes};
-ghost use Rattle.file_requests.specs.Resizing.{resized};
+ghost use Rattle.file_requests.specs.Resizing.{fitted};
 ghost use Rattle.dir_entries.specs.Inner.{CanAppend};
 ghost use Rattle.dir_answers.specs.Inner.{DirHead};
 ghost use Rattle.dir_create.specs.Create.{knownKind, fileKind, freshInode, createTakes, createRoom, createAnswer, madeFile, bareDir, emptyDir, madeDir, made};
@@ -159,12 +159,12 @@ fn make_file(
 // Inode i as a directory of 520 bytes.
 fn make_bare(image: &mut [u8], nb: u32, i: INodeId)
     requires { ⌜ Sizes (now image) nb × (i .0 < nb) ⌝ }
-    ensures { λ _. ⌜ now (image .exit) ≡ resized nb (i .0) bareDir 520 (encoded (now (image .entry)) (i .0) bareDir) ⌝ }
+    ensures { λ _. ⌜ now (image .exit) ≡ fitted nb (i .0) bareDir 520 (encoded (now (image .entry)) (i .0) bareDir) ⌝ }
 {
     let d = DiskINode::new(FileType::Dir);
     let e = d.set_nlinks(2);
     inode::encode(image, i, e);
-    resizing::resize_to(image, nb, i, e, 520);
+    resizing::fit(image, nb, i, e, 520);
 }
 
 // Block i becomes a directory of two entries, below p.

@@ -11,7 +11,7 @@ use Rattle.card_layout.specs.declared.inode.DiskINode.{DiskINode}
 use Rattle.card_map.specs.Free.{firstFrom}
 use Rattle.card_rules.specs.View.{entries, name}
 use Rattle.file_blocks.specs.Bytes.{readInto, filled}
-use Rattle.file_requests.specs.Resizing.{resized}
+use Rattle.file_requests.specs.Resizing.{fitted}
 
 -- ---- looking a name up
 
@@ -42,8 +42,8 @@ entryPut nb n k e img = filled false e nb n (entrySize * k) (entrySize * k + ent
 
 -- "appends": the directory is 260 longer, and e its last entry
 unfoldable pub appended : ℕ → ℕ → DiskINode → List ℕ → List ℕ → List ℕ
-appended nb n d e img = entryPut nb n (d .head .size / entrySize) e (resized nb n d (d .head .size + entrySize) img)
+appended nb n d e img = entryPut nb n (d .head .size / entrySize) e (fitted nb n d (d .head .size + entrySize) img)
 
 -- "puts the last entry in the hole, shortens the directory by 260"
 unfoldable pub removed : ℕ → ℕ → DiskINode → ℕ → List ℕ → List ℕ
-removed nb n d k img = resized nb n d (d .head .size - entrySize) (entryPut nb n k (entryAt nb img n (d .head .size / entrySize - 1)) img)
+removed nb n d k img = fitted nb n d (d .head .size - entrySize) (entryPut nb n k (entryAt nb img n (d .head .size / entrySize - 1)) img)

@@ -42,7 +42,7 @@ pub fn append_direntry(image: &mut [u8], nb: u32, n: INodeId, d: DiskINode, e: &
     ensures { λ _. ⌜ now (image .exit) ≡ appended nb (n .0) d (now (e .entry)) (now (image .entry)) ⌝ }
 {
     let z = d.head.size;
-    resizing::resize_to(image, nb, n, d, z + ENTRY);
+    resizing::fit(image, nb, n, d, z + ENTRY);
     write_entry(image, nb, n, z as usize / DIRENT_SIZE, e);
 }
 
@@ -54,5 +54,5 @@ pub fn remove_direntry(image: &mut [u8], nb: u32, n: INodeId, d: DiskINode, k: u
     let z = d.head.size;
     let e = read_entry(image, nb, n, z as usize / DIRENT_SIZE - 1);
     write_entry(image, nb, n, k, &e);
-    resizing::resize_to(image, nb, n, d, z - ENTRY);
+    resizing::fit(image, nb, n, d, z - ENTRY);
 }

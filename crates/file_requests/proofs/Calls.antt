@@ -54,7 +54,7 @@ module _ (nb : ℕ) (img : List ℕ) (n : ℕ) where
     pub write-good : (h : Head) (r : Filed) (out : List ℕ) → headOf (decoded img n) ≡ Good h
         → r ≡ onDone (writeJudged (unused img) h (endOf off src)) (Count (length src)) (writeJudged (unused img) h (endOf off src))
         → out ≡ onDone (writeJudged (unused img) h (endOf off src))
-        (filled false src nb n off (endOf off src) (reaching nb n (recordWith img n h) (endOf off src) img))
+        (filled false src nb n off (endOf off src) (reaching nb n (recordWith img n h) off (endOf off src) img))
         img
         → (r ≡ writeAnswer img n off src) × (out ≡ writeCard nb img n off src)
     unfolding writeAnswer writeCard

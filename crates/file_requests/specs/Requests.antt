@@ -17,7 +17,7 @@ use Rattle.card_layout.specs.declared.inode.Decoded.{Decoded}
 use Rattle.card_layout.specs.declared.inode.Decoded.the-variants.{Good, BadKind}
 use Rattle.card_layout.specs.declared.inode.DiskINode.{DiskINode}
 use Rattle.file_blocks.specs.Bytes.{readInto, filled}
-use Rattle.file_requests.specs.Resizing.{resized}
+use Rattle.file_requests.specs.Resizing.{fitted, newZero, resized}
 use Rattle.file_requests.specs.declared.Filed.{Filed}
 use Rattle.file_requests.specs.declared.Filed.the-variants.{Done, Count, NotFile, InvalidParam, NoDeviceSpace}
 
@@ -83,8 +83,9 @@ endOf off src = off + length src
 unfoldable pub writeJudged : ℕ → Head → ℕ → Filed
 writeJudged u h end = pick (ltb (h .size) end) (judged u h end) Done
 
-unfoldable pub reaching : ℕ → ℕ → DiskINode → ℕ → List ℕ → List ℕ
-reaching nb n d end img = pick (ltb (d .head .size) end) (resized nb n d end img) img
+-- the file with at least end bytes, those of the gap up to off zero: what comes after it is about to be written
+unfoldable pub reaching : ℕ → ℕ → DiskINode → ℕ → ℕ → List ℕ → List ℕ
+reaching nb n d off end img = pick (ltb (d .head .size) end) (newZero nb n d off (fitted nb n d end img)) img
 
 unfoldable pub writeAnswer : List ℕ → ℕ → ℕ → List ℕ → Filed
 writeAnswer img n off src =
@@ -93,7 +94,7 @@ writeAnswer img n off src =
 
 -- the bytes of src in a file, with the record d, that first reaches them
 abbrev pub stored : ℕ → ℕ → DiskINode → ℕ → List ℕ → List ℕ → List ℕ
-stored nb n d off src img = filled false src nb n off (endOf off src) (reaching nb n d (endOf off src) img)
+stored nb n d off src img = filled false src nb n off (endOf off src) (reaching nb n d off (endOf off src) img)
 
 unfoldable pub writeCard : ℕ → List ℕ → ℕ → ℕ → List ℕ → List ℕ
 writeCard nb img n off src =

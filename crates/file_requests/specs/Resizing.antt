@@ -26,10 +26,6 @@ lengthened nb n d len img = encoded (growth nb d len img .cur .img) n (ofLength 
 abbrev pub cleaned : ℕ → ℕ → ℕ → ℕ → List ℕ → List ℕ
 cleaned nb n off end img = filled true [] nb n off end img
 
--- "If the block count grows, bytes from old size to new are zeroed, and no others."
-unfoldable pub longer : ℕ → ℕ → DiskINode → ℕ → List ℕ → List ℕ
-longer nb n d len img = cleaned nb n (min (d .head .size) len) len (lengthened nb n d len img)
-
 -- the most blocks that a length has, and those of a record that says more
 abbrev pub mostBlocks : ℕ
 mostBlocks = 1048576
@@ -45,8 +41,16 @@ shorter nb n d len img =
     n
     (ofLength (lessDouble (blocksFor len) (fileBlocks d) (lessIndirect (blocksFor len) (fileBlocks d) d)) len)
 
--- "If it is equal, only the size changes, so bytes appear as the block holds them"
-unfoldable pub resized : ℕ → ℕ → DiskINode → ℕ → List ℕ → List ℕ
-resized nb n d len img =
-    pick (ltb (d .head .blocks) (blocksFor len)) (longer nb n d len img)
+-- the record with a length, and the blocks that it takes: more, fewer, or those that it has
+unfoldable pub fitted : ℕ → ℕ → DiskINode → ℕ → List ℕ → List ℕ
+fitted nb n d len img =
+    pick (ltb (d .head .blocks) (blocksFor len)) (lengthened nb n d len img)
     (pick (ltb (blocksFor len) (d .head .blocks)) (shorter nb n d len img) (encoded img n (withSize d len)))
+
+-- the bytes from the old size, which d has, up to z zero, where z is above it
+abbrev pub newZero : ℕ → ℕ → DiskINode → ℕ → List ℕ → List ℕ
+newZero nb n d z img = pick (ltb (d .head .size) z) (cleaned nb n (d .head .size) z img) img
+
+-- "every byte from the old size to the new reads zero after any growth"
+unfoldable pub resized : ℕ → ℕ → DiskINode → ℕ → List ℕ → List ℕ
+resized nb n d len img = newZero nb n d len (fitted nb n d len img)

@@ -107,16 +107,17 @@ pub fn resize(image: &mut [u8], nb: u32, n: INodeId, len: u64) -> Filed
     }
 }
 
-// The file with at least end bytes.
-fn reach(image: &mut [u8], nb: u32, n: INodeId, h: Head, end: usize)
-    requires { ⌜ Sizes (now image) nb × (n .0 < nb) × (end ≤ 4294967295) ⌝ }
-    ensures { λ _. ⌜ now (image .exit) ≡ reaching nb (n .0) (recordWith (now (image .entry)) (n .0) h) end (now (image .entry)) ⌝ }
+// The file with at least end bytes, and zeros up to off where it was shorter than that.
+fn reach(image: &mut [u8], nb: u32, n: INodeId, h: Head, off: usize, end: usize)
+    requires { ⌜ Sizes (now image) nb × (n .0 < nb) × (off ≤ end) × (end ≤ 4294967295) ⌝ }
+    ensures { λ _. ⌜ now (image .exit) ≡ reaching nb (n .0) (recordWith (now (image .entry)) (n .0) h) off end (now (image .entry)) ⌝ }
 {
     if end <= h.size as usize {
         return;
     }
     let d = record_with(image, n, h);
-    resizing::resize_to(image, nb, n, d, end as u32);
+    resizing::fit(image, nb, n, d, end as u32);
+    resizing::clean_new(image, nb, n, d, off as u32);
 }
 
 // The bytes of src at off, in a file that reaches them.
@@ -125,7 +126,7 @@ fn put_bytes(image: &mut [u8], nb: u32, n: INodeId, h: Head, off: usize, src: &[
     ensures { λ _. ⌜ now (image .exit) ≡ stored nb (n .0) (recordWith (now (image .entry)) (n .0) h) off (now (src .entry)) (now (image .entry)) ⌝ }
 {
     let end = off + src.len();
-    reach(image, nb, n, h, end);
+    reach(image, nb, n, h, off, end);
     file_fill::fill_at(image, nb as usize, n, off, end, false, src);
 }
 

@@ -1,10 +1,10 @@
 // The act of a length change, of an inode of any kind: d is the record of inode n as the card has it, nb the card's block count.
 ghost use mathlib.Core.Path.{_≡_};
-ghost use Prim.Native.Nat.{_*_, _≤_, _<_, min};
+ghost use Prim.Native.Nat.{_*_, _≤_, _<_};
 ghost use lib.ListN.{length};
 ghost use Rattle.card_layout.specs.Sizes.{blocksFor, blockSize};
 ghost use Rattle.file_blocks.specs.Inner.{Sizes};
-ghost use Rattle.file_requests.specs.Resizing.{ofLength, lengthened, cleaned, longer, fileBlocks, shorter, resized};
+ghost use Rattle.file_requests.specs.Resizing.{ofLength, lengthened, cleaned, fileBlocks, shorter, fitted, newZero, resized};
 use card_layout::BlockId;
 use card_layout::INodeId;
 use card_layout::inode;
@@ -41,13 +41,16 @@ fn clean_at(image: &mut [u8], nb: usize, n: INodeId, off: usize, end: usize)
     file_fill::fill_at(image, nb, n, off, end, true, &none);
 }
 
-// What is new of a longer file, from its old size on: those bytes, and no others.
-fn clean_new(image: &mut [u8], nb: u32, n: INodeId, old: u32, new: u32)
+// What is new of a longer file: its bytes from the old size, which d has, up to z, and no others.
+pub fn clean_new(image: &mut [u8], nb: u32, n: INodeId, d: DiskINode, z: u32)
     requires { ⌜ Sizes (now image) nb × (n .0 < nb) ⌝ }
-    ensures { λ _. ⌜ now (image .exit) ≡ cleaned nb (n .0) (min old new) new (now (image .entry)) ⌝ }
+    ensures { λ _. ⌜ now (image .exit) ≡ newZero nb (n .0) d z (now (image .entry)) ⌝ }
 {
-    let off = order::least(old as usize, new as usize);
-    clean_at(image, nb as usize, n, off, new as usize);
+    let old = d.head.size;
+    if old >= z {
+        return;
+    }
+    clean_at(image, nb as usize, n, old as usize, z as usize);
 }
 
 // The blocks of a longer file taken, and the record written.
@@ -63,15 +66,6 @@ fn take_for(image: &mut [u8], nb: u32, n: INodeId, d: DiskINode, len: u32)
     let r = file_grow::grow(image, nb, d.head.blocks as usize, b, t);
     let e = r.inode;
     inode::encode(image, n, of_length(e, len));
-}
-
-// The block count grows: what is new reads as zeros.
-fn lengthen(image: &mut [u8], nb: u32, n: INodeId, d: DiskINode, len: u32)
-    requires { ⌜ Sizes (now image) nb × (n .0 < nb) × (d .head .blocks ≤ blocksFor len) ⌝ }
-    ensures { λ _. ⌜ now (image .exit) ≡ longer nb (n .0) d len (now (image .entry)) ⌝ }
-{
-    take_for(image, nb, n, d, len);
-    clean_new(image, nb, n, d.head.size, len);
 }
 
 // The blocks that a record can stand for.
@@ -94,15 +88,15 @@ fn shorten(image: &mut [u8], nb: u32, n: INodeId, d: DiskINode, len: u32)
     inode::encode(image, n, of_length(f, len));
 }
 
-// The length of inode n becomes len. A count that stays changes no block, so that bytes appear as the last block holds them.
-pub fn resize_to(image: &mut [u8], nb: u32, n: INodeId, d: DiskINode, len: u32)
+// The record of inode n gets a length, and the blocks that it takes; no byte is zeroed.
+pub fn fit(image: &mut [u8], nb: u32, n: INodeId, d: DiskINode, len: u32)
     requires { ⌜ Sizes (now image) nb × (n .0 < nb) ⌝ }
-    ensures { λ _. ⌜ now (image .exit) ≡ resized nb (n .0) d len (now (image .entry)) ⌝ }
+    ensures { λ _. ⌜ now (image .exit) ≡ fitted nb (n .0) d len (now (image .entry)) ⌝ }
 {
     let a = d.head.blocks as usize;
     let b = blocks_for(len as usize);
     if a < b {
-        lengthen(image, nb, n, d, len);
+        take_for(image, nb, n, d, len);
         return;
     }
     if b < a {
@@ -110,4 +104,13 @@ pub fn resize_to(image: &mut [u8], nb: u32, n: INodeId, d: DiskINode, len: u32)
         return;
     }
     inode::encode(image, n, d.set_size(len));
+}
+
+// The length of inode n becomes len, and what is new of it reads as zeros.
+pub fn resize_to(image: &mut [u8], nb: u32, n: INodeId, d: DiskINode, len: u32)
+    requires { ⌜ Sizes (now image) nb × (n .0 < nb) ⌝ }
+    ensures { λ _. ⌜ now (image .exit) ≡ resized nb (n .0) d len (now (image .entry)) ⌝ }
+{
+    fit(image, nb, n, d, len);
+    clean_new(image, nb, n, d, len);
 }

@@ -146,7 +146,7 @@ module _ {c : List ℕ} {nb : ℕ} (s : FileCard c nb 0) (len : ℕ) where
     out-is : resizeCard nb c 4 len ≡ out
     out-is = resize-done kind-of tt nb len short fine ∙ ap (λ (b : ℕ). resized b 4 (inodeAt c 4 File) len c) (sym (s .blocks-are))
 
-    change : Resized c out 4 len
+    change : Resized c out 4 len len
     change = length-change c (4 ∷ one) (s .sound) (s .bytes) 4 listed File (s .file) len short fine
 
     up : count c 4 < blocksFor len

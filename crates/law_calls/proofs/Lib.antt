@@ -13,6 +13,7 @@ pub mod Acts
 pub mod Days
 pub mod FileEffects
 pub mod LookEffects
+pub mod Shown
 pub mod Finds
 pub mod Paths
 pub mod Both

@@ -18,7 +18,7 @@ use Rattle.card_layout.proofs.Words.{length-words}
 use Rattle.card_map.specs.Free.{taken, lowest}
 use Rattle.file_blocks.specs.Taking.{nextFree, lessIndirect, lessDouble}
 use Rattle.file_blocks.proofs.Picks.{pick-both}
-use Rattle.file_requests.specs.Resizing.{growth, lengthened, longer, fileBlocks, shorter, resized}
+use Rattle.file_requests.specs.Resizing.{growth, lengthened, fileBlocks, shorter, fitted, newZero, resized}
 use Rattle.file_requests.specs.Requests.{longest, recordWith, reaching}
 use Rattle.dir_entries.specs.Entries.{entryAt, entryPut, appended, removed}
 use Rattle.dir_entries.specs.Names.{dot, dots}
@@ -53,12 +53,12 @@ module _ (nb : ℕ) (few : fewest ≤ nb) (img : List ℕ) where
   -- ---- a length change
 
   module _ (n : ℕ) (here : n < nb) (d : DiskINode) (twelve : Twelve d) (x : List ℕ) (t : Tailed nb img x) where
-    tail-longer : (len : ℕ) → len ≤ longest + 260 → Tailed nb img (longer nb n d len x)
-    unfolding longer lengthened
-    tail-longer len l =
+    tail-lengthened : (len : ℕ) → len ≤ longest + 260 → Tailed nb img (lengthened nb n d len x)
+    unfolding lengthened
+    tail-lengthened len l =
         let g : Growable nb few img (growth nb d len x) =
         tail-grown nb few img (d .head .blocks) (blocksFor len) _ (omega arith) (record { card = t; twelve = twelve }) in
-        tail-filled nb few img true [] (min (d .head .size) len) len n _ (tail-encoded nb few img n _ _ here (g .twelve) (g .card))
+        tail-encoded nb few img n _ _ here (g .twelve) (g .card)
 
     tail-shorter : (len : ℕ) → Tailed nb img (shorter nb n d len x)
     unfolding shorter
@@ -66,15 +66,25 @@ module _ (nb : ℕ) (few : fewest ≤ nb) (img : List ℕ) where
         tail-encoded nb few img n _ _ here (less-twelve (blocksFor len) (fileBlocks d) d twelve)
         (tail-shrunk nb few img n d (blocksFor len) (fileBlocks d) x t)
 
-    pub tail-resized : (len : ℕ) → len ≤ longest + 260 → Tailed nb img (resized nb n d len x)
-    unfolding resized
-    tail-resized len l =
-        pick-both (Tailed nb img) (ltb (d .head .blocks) (blocksFor len)) _ _ (tail-longer len l)
+    tail-fitted : (len : ℕ) → len ≤ longest + 260 → Tailed nb img (fitted nb n d len x)
+    unfolding fitted
+    tail-fitted len l =
+        pick-both (Tailed nb img) (ltb (d .head .blocks) (blocksFor len)) _ _ (tail-lengthened len l)
         (pick-both (Tailed nb img) (ltb (blocksFor len) (d .head .blocks)) _ _ (tail-shorter len) (tail-encoded nb few img n _ x here twelve t))
 
-    pub tail-reaching : (end : ℕ) → (d .head .size < end → end ≤ longest) → Tailed nb img (reaching nb n d end x)
+    -- the new bytes up to z zero
+    tail-zeroed : (len z : ℕ) → len ≤ longest + 260 → Tailed nb img (newZero nb n d z (fitted nb n d len x))
+    tail-zeroed len z l =
+        let f = tail-fitted len l in
+        pick-both (Tailed nb img) (ltb (d .head .size) z) _ _ (tail-filled nb few img true [] (d .head .size) z n _ f) f
+
+    pub tail-resized : (len : ℕ) → len ≤ longest + 260 → Tailed nb img (resized nb n d len x)
+    unfolding resized
+    tail-resized len l = tail-zeroed len len l
+
+    pub tail-reaching : (off end : ℕ) → (d .head .size < end → end ≤ longest) → Tailed nb img (reaching nb n d off end x)
     unfolding reaching
-    tail-reaching end l = below-keeps (Tailed nb img) (d .head .size) end _ x (λ q. tail-resized end (omega (arith, l q))) t
+    tail-reaching off end l = below-keeps (Tailed nb img) (d .head .size) end _ x (λ q. tail-zeroed end off (omega (arith, l q))) t
 
   -- ---- entries
 
@@ -86,12 +96,12 @@ module _ (nb : ℕ) (few : fewest ≤ nb) (img : List ℕ) where
       (t : Tailed nb img x) where
     tail-appended : (e : List ℕ) → Tailed nb img (appended nb n d e x)
     unfolding appended
-    tail-appended e = tail-entryPut n (d .head .size / 260) e _ (tail-resized n here d twelve x t (d .head .size + 260) (omega arith))
+    tail-appended e = tail-entryPut n (d .head .size / 260) e _ (tail-fitted n here d twelve x t (d .head .size + 260) (omega arith))
 
     tail-removed : (k : ℕ) → Tailed nb img (removed nb n d k x)
     unfolding removed
     tail-removed k =
-        tail-resized n here d twelve _ (tail-entryPut n k (entryAt nb x n (d .head .size / 260 - 1)) x t) (d .head .size - 260) (omega arith)
+        tail-fitted n here d twelve _ (tail-entryPut n k (entryAt nb x n (d .head .size / 260 - 1)) x t) (d .head .size - 260) (omega arith)
 
   -- ---- create, in a directory p with record d
 
@@ -114,7 +124,7 @@ module _ (nb : ℕ) (few : fewest ≤ nb) (img : List ℕ) where
         tail-appended p here (withLinks d (d .head .nlinks + 1)) twelve small _
         (tail-entryPut i 1 (entryOf p dots) _
         (tail-entryPut i 0 (entryOf i dot) _
-        (tail-resized i new-below bareDir refl _
+        (tail-fitted i new-below bareDir refl _
         (tail-encoded nb few img i bareDir (taken y 0 nb) new-below refl (tail-taken nb few img 0 y t))
         520
         (omega arith))))

@@ -108,7 +108,7 @@ module _ {img : List ℕ} (w : Whole img) where
         on-done Kept (writeJudged (unused img) (headAt img n k) (endOf off src)) _ img
         (λ e.
         tail-filled (blocks img) few img false src off (endOf off src) n _
-        (tail-reaching (blocks img) few img n here (recordWith img n (headAt img n k)) (twelve-at img n) img start (endOf off src)
+        (tail-reaching (blocks img) few img n here (recordWith img n (headAt img n k)) (twelve-at img n) img start off (endOf off src)
         (write-small (unused img) (headAt img n k) (endOf off src) e)))
         start)
         start

@@ -19,7 +19,7 @@ use Rattle.card_layout.specs.declared.inode.DiskINode.{DiskINode}
 use Rattle.file_blocks.specs.Bytes.{afterOf, pieceRead, runRead, directRead, indirectRead, levelRead, doubleRead, readInto}
 use Rattle.file_blocks.specs.Inner.{levelsFrom, levelsTo}
 use Rattle.file_blocks.proofs.Growth.{nextFree-below}
-use Rattle.file_requests.specs.Resizing.{ofLength, growth, lengthened, longer, fileBlocks, shorter, resized}
+use Rattle.file_requests.specs.Resizing.{ofLength, growth, lengthened, fileBlocks, shorter, fitted, newZero, resized}
 use Rattle.file_requests.specs.Requests.{longest, recordWith, reaching}
 use Rattle.dir_entries.specs.Entries.{entryAt, entryPut, appended, removed}
 use Rattle.dir_entries.specs.Names.{dot, dots}
@@ -112,27 +112,36 @@ module _ (nb : ℕ) (few : fewest ≤ nb) where
   -- ---- a length change
 
   module _ (n : ℕ) (here : n < nb) (d : DiskINode) {x y : List ℕ} (t : Twin nb x y) where
-    twin-longer : (len : ℕ) → len ≤ longest + 260 → Twin nb (longer nb n d len x) (longer nb n d len y)
-    unfolding longer lengthened
-    twin-longer len l =
+    twin-lengthened : (len : ℕ) → len ≤ longest + 260 → Twin nb (lengthened nb n d len x) (lengthened nb n d len y)
+    unfolding lengthened
+    twin-lengthened len l =
         let g : TwinGrowing nb few (growth nb d len x) (growth nb d len y) =
         twin-grown nb few (d .head .blocks) (blocksFor len) _ _ (omega arith) (record { cursors = record { cards = t; starts = refl }; records = refl }) in
-        twin-filled nb few true [] (min (d .head .size) len) len n here (omega arith)
-        (rw (← g .records) (twin-encoded n (ofLength (growth nb d len x .inode) len) (g .cursors .cards)))
+        rw (← g .records) (twin-encoded n (ofLength (growth nb d len x .inode) len) (g .cursors .cards))
 
     twin-shorter : (len : ℕ) → Twin nb (shorter nb n d len x) (shorter nb n d len y)
     unfolding shorter
     twin-shorter len = twin-encoded n _ (twin-shrunk nb few n d (blocksFor len) (fileBlocks d) here (omega arith) t)
 
-    pub twin-resized : (len : ℕ) → len ≤ longest + 260 → Twin nb (resized nb n d len x) (resized nb n d len y)
-    unfolding resized
-    twin-resized len l =
-        both-pick (Twin nb) (ltb (d .head .blocks) (blocksFor len)) _ _ _ _ (twin-longer len l)
+    twin-fitted : (len : ℕ) → len ≤ longest + 260 → Twin nb (fitted nb n d len x) (fitted nb n d len y)
+    unfolding fitted
+    twin-fitted len l =
+        both-pick (Twin nb) (ltb (d .head .blocks) (blocksFor len)) _ _ _ _ (twin-lengthened len l)
         (both-pick (Twin nb) (ltb (blocksFor len) (d .head .blocks)) _ _ _ _ (twin-shorter len) (twin-encoded n _ t))
 
-    pub twin-reaching : (end : ℕ) → (d .head .size < end → end ≤ longest) → Twin nb (reaching nb n d end x) (reaching nb n d end y)
+    -- the new bytes up to z zero
+    twin-zeroed : (len z : ℕ) → len ≤ longest + 260 → z ≤ len → Twin nb (newZero nb n d z (fitted nb n d len x)) (newZero nb n d z (fitted nb n d len y))
+    twin-zeroed len z l below =
+        let f = twin-fitted len l in
+        both-pick (Twin nb) (ltb (d .head .size) z) _ _ _ _ (twin-filled nb few true [] (d .head .size) z n here (omega arith) f) f
+
+    pub twin-resized : (len : ℕ) → len ≤ longest + 260 → Twin nb (resized nb n d len x) (resized nb n d len y)
+    unfolding resized
+    twin-resized len l = twin-zeroed len len l (omega arith)
+
+    pub twin-reaching : (off end : ℕ) → off ≤ end → (d .head .size < end → end ≤ longest) → Twin nb (reaching nb n d off end x) (reaching nb n d off end y)
     unfolding reaching
-    twin-reaching end l = both-below (Twin nb) (d .head .size) end _ _ x y (λ q. twin-resized end (omega (arith, l q))) t
+    twin-reaching off end below l = both-below (Twin nb) (d .head .size) end _ _ x y (λ q. twin-zeroed end off (omega (arith, l q)) below) t
 
   -- ---- entries: k is the place of one that a directory can have
 
@@ -148,14 +157,14 @@ module _ (nb : ℕ) (few : fewest ≤ nb) where
   module _ (n : ℕ) (here : n < nb) (d : DiskINode) (small : d .head .size ≤ longest) {x y : List ℕ} (t : Twin nb x y) where
     twin-appended : (e : List ℕ) → Twin nb (appended nb n d e x) (appended nb n d e y)
     unfolding appended
-    twin-appended e = twin-entryPut n here (d .head .size / 260) (omega arith) (twin-resized n here d t (d .head .size + 260) (omega arith)) e
+    twin-appended e = twin-entryPut n here (d .head .size / 260) (omega arith) (twin-fitted n here d t (d .head .size + 260) (omega arith)) e
 
     twin-removed : (k : ℕ) → 260 * k ≤ longest → Twin nb (removed nb n d k x) (removed nb n d k y)
     unfolding removed
     twin-removed k l =
         let last = d .head .size / 260 - 1 in
         rw (← twin-entryAt n here last (omega arith) t)
-        (twin-resized n here d (twin-entryPut n here k l t (entryAt nb x n last)) (d .head .size - 260) (omega arith))
+        (twin-fitted n here d (twin-entryPut n here k l t (entryAt nb x n last)) (d .head .size - 260) (omega arith))
 
   -- ---- create, in a directory p with record d
 
@@ -178,7 +187,7 @@ module _ (nb : ℕ) (few : fewest ≤ nb) where
         (twin-appended p here (withLinks d (d .head .nlinks + 1)) small
         (twin-entryPut i new-below 1 (omega arith)
         (twin-entryPut i new-below 0 (omega arith)
-        (twin-resized i new-below bareDir (twin-encoded i bareDir (twin-taken nb few 0 t)) 520 (omega arith))
+        (twin-fitted i new-below bareDir (twin-encoded i bareDir (twin-taken nb few 0 t)) 520 (omega arith))
         (entryOf i dot))
         (entryOf p dots))
         (entryOf i s))

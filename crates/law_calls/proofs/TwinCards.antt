@@ -72,7 +72,7 @@ module _ {img out : List ℕ} (w : Whole img) (t : Twin (blocks img) img out) wh
         rw (record-twin w t n r (headAt img n k))
         (twin-filled nb few false src off (endOf off src) n here
         (omega (arith, within (headAt img n k) small (write-small (unused img) (headAt img n k) (endOf off src) e)))
-        (twin-reaching nb few n here (recordWith img n (headAt img n k)) t (endOf off src)
+        (twin-reaching nb few n here (recordWith img n (headAt img n k)) t off (endOf off src) (omega arith)
         (write-small (unused img) (headAt img n k) (endOf off src) e))))
         t)
         t)

@@ -79,3 +79,24 @@ Unnamed m img c = Done c → cnt m (namesOf img (c .asked)) ≡ 0
 -- it does not ask about the name x in directory d
 abbrev pub Unasked : ℕ → List ℕ → List ℕ → Call → Type 0
 Unasked d x img c = Done c → Asks img (c .asked) d x → ⊥
+
+-- ---- what a file shows
+
+-- byte o of file n as a read shows it, which was v, after a call: of a write to n that was done the byte written there; 0 once the length is o or less; else v
+abbrev pub shown : Asked → Said → ℕ → ℕ → ℕ → ℕ
+shown (file (reading m off k)) r n o v = v
+shown (file (writing m off src)) r n o v = put (file (writing m off src)) r n o v
+shown (file (resizing m len)) r n o v = pick (eqb (saidNo r) 0) (pick (eqb m n) (pick (ltb o len) v 0) v) v
+shown (creating p x k) r n o v = v
+shown (linking p x c) r n o v = v
+shown (unlinking p x) r n o v = v
+shown (moving p old t new) r n o v = v
+shown (finding p x) r n o v = v
+shown (listing p k) r n o v = v
+shown (describing m) r n o v = v
+shown checking r n o v = v
+
+-- and after all calls of a list: the last byte written there since the length last rose over it, or 0 where it rose since, or v
+unfoldable pub lastShown : List Call → ℕ → ℕ → ℕ → ℕ
+lastShown [] n o v = v
+lastShown (c ∷ cs) n o v = lastShown cs n o (shown (c .asked) (c .said) n o v)

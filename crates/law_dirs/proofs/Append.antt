@@ -19,7 +19,7 @@ use Rattle.card_rules.proofs.Views.{fileBytes-cong, entry-cong, name-cong}
 use Rattle.card_rules.proofs.Frames.{inode-room}
 use Rattle.card_rules.proofs.Kept.{slots-few}
 use Rattle.card_rules.proofs.Isolation.{sound-one, data-slots}
-use Rattle.file_requests.specs.Resizing.{resized}
+use Rattle.file_requests.specs.Resizing.{fitted}
 use Rattle.file_requests.specs.Requests.{longest, needs}
 use Rattle.dir_entries.specs.Entries.{entryPut, appended}
 use Rattle.law_files.proofs.Resized.{held-is}
@@ -87,7 +87,7 @@ module _ (img l : List ℕ) (s : Sound img l) (bytes : Bytes img) (n : ℕ) (h :
       (entry-put mid l (sound-one s h (r .within) (r .balanced)) (r .bytes) n h (entries img n) e long src (omega (arith, r .size-is))))
     where
       mid : List ℕ
-      mid = resized (blocks img) n (withLinks (inodeAt img n k) v) (size img n + 260) img
+      mid = fitted (blocks img) n (withLinks (inodeAt img n k) v) (size img n + 260) img
 
       r : ResizedWith img mid n (size img n + 260) v
       r = links-change img l s bytes n h v low k kind-as (size img n + 260) short room

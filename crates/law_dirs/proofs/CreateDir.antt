@@ -21,13 +21,13 @@ use Rattle.card_rules.proofs.Views.{owned-few}
 use Rattle.card_rules.proofs.Frames.{data-is}
 use Rattle.card_rules.proofs.Isolation.{data-slots}
 use Rattle.file_grow.proofs.Taken.{nthFree}
-use Rattle.file_requests.specs.Resizing.{resized}
+use Rattle.file_requests.specs.Resizing.{fitted}
 use Rattle.dir_entries.specs.Entries.{entryPut}
 use Rattle.dir_entries.specs.Names.{dot, dots, noNul}
 use Rattle.dir_entries.proofs.Given.{storable-name}
 use Rattle.dir_create.specs.Create.{bareDir}
 use Rattle.law_files.proofs.Plan.{planned}
-use Rattle.law_files.proofs.Placed.{Placed, grow-placed}
+use Rattle.law_files.proofs.Placed.{Placed, fit-placed}
 use Rattle.law_files.proofs.Edits.{Edited, edited-trans, edited-sound}
 use Rattle.law_dirs.proofs.Links.{ResizedWith, links-change, resized-edited}
 use Rattle.law_dirs.proofs.Entry.{EntryPut, entry-put, put-beside, entryOf-length, entryOf-bytes, entryOf-number, entryOf-name}
@@ -77,7 +77,7 @@ pub record EmptyDir (out : List ℕ) (i p : ℕ) : Type 0 where
 
 module _ {l img mid : List ℕ} {i : ℕ} (f : Fresh l img mid i Dir 2) (p : ℕ) (p-fits : p < 2 ^ 32) (room : 1 ≤ unused mid) where
   abbrev long : List ℕ
-  long = resized (blocks img) i bareDir 520 mid
+  long = fitted (blocks img) i bareDir 520 mid
 
   abbrev first : List ℕ
   first = entryPut (blocks img) i 0 (entryOf i dot) long
@@ -94,8 +94,8 @@ module _ {l img mid : List ℕ} {i : ℕ} (f : Fresh l img mid i Dir 2) (p : ℕ
   -- its block
   grown : ResizedWith mid long i 520 2
   grown =
-      subst (λ (b : ℕ). ResizedWith mid (resized b i bareDir 520 mid) i 520 2) (f .blocks-is)
-      (subst (λ (d : DiskINode). ResizedWith mid (resized (blocks mid) i (withLinks d 2) 520 mid) i 520 2) (f .record-is)
+      subst (λ (b : ℕ). ResizedWith mid (fitted b i bareDir 520 mid) i 520 2) (f .blocks-is)
+      (subst (λ (d : DiskINode). ResizedWith mid (fitted (blocks mid) i (withLinks d 2) 520 mid) i 520 2) (f .record-is)
       (links-change mid (i ∷ l) (f .sound) (f .bytes) i here 2 (omega arith) Dir (f .kind-is) 520 (omega arith)
       (omega (arith, room, ap owned (f .count-is), owned-few 1 (omega arith), owned-few 0 (omega arith)))))
 
@@ -156,9 +156,9 @@ module _ {l img mid : List ℕ} {i : ℕ} (f : Fresh l img mid i Dir 2) (p : ℕ
   -- its block is the lowest free one
   placed : Placed mid long i 520
   placed =
-      subst (λ (b : ℕ). Placed mid (resized b i bareDir 520 mid) i 520) (f .blocks-is)
-      (subst (λ (d : DiskINode). Placed mid (resized (blocks mid) i d 520 mid) i 520) (f .record-is)
-      (grow-placed mid (i ∷ l) (f .sound) (f .bytes) i here Dir (f .kind-is) 520 (omega arith)
+      subst (λ (b : ℕ). Placed mid (fitted b i bareDir 520 mid) i 520) (f .blocks-is)
+      (subst (λ (d : DiskINode). Placed mid (fitted (blocks mid) i d 520 mid) i 520) (f .record-is)
+      (fit-placed mid (i ∷ l) (f .sound) (f .bytes) i here Dir (f .kind-is) 520 (omega arith)
       (omega (arith, room, ap owned (f .count-is), owned-few 1 (omega arith), owned-few 0 (omega arith)))
       (omega (arith, f .count-is))))
 
@@ -179,8 +179,8 @@ module _ {l img mid : List ℕ} {i : ℕ} (f : Fresh l img mid i Dir 2) (p : ℕ
   -- its record: the slots after the first are those of the new one
   long-direct : (j : ℕ) → 1 ≤ j → j < 12 → direct long i j ≡ direct mid i j
   long-direct j a b =
-      subst (λ (n : ℕ). direct (resized n i bareDir 520 mid) i j ≡ direct mid i j) (f .blocks-is)
-      (subst (λ (d : DiskINode). direct (resized (blocks mid) i d 520 mid) i j ≡ direct mid i j) (f .record-is)
+      subst (λ (n : ℕ). direct (fitted n i bareDir 520 mid) i j ≡ direct mid i j) (f .blocks-is)
+      (subst (λ (d : DiskINode). direct (fitted (blocks mid) i d 520 mid) i j ≡ direct mid i j) (f .record-is)
       (direct-kept mid (i ∷ l) (f .sound) (f .bytes) i here Dir (f .kind-is) 520 (omega arith)
       (omega (arith, room, ap owned (f .count-is), owned-few 1 (omega arith), owned-few 0 (omega arith))) (f .count-is) refl j a b))
 

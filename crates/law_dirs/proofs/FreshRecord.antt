@@ -25,16 +25,16 @@ use Rattle.card_rules.proofs.Owners.{inode-below}
 use Rattle.card_rules.proofs.Frames.{size-is, kind-is, links-is, count-is, direct-is, indirect-is, double-is, padding-is, device-is}
 use Rattle.file_blocks.specs.Taking.{Growing, nextOf, growIndirect, growDouble, growLevel, growDirect, growSingle, grown}
 use Rattle.file_blocks.proofs.Growth.{nextFree-below, growIndirect-short, growDouble-short, inode-growLevel, inode-growSingle, inode-growTwofold}
-use Rattle.file_requests.specs.Resizing.{ofLength, growth, lengthened, resized}
+use Rattle.file_requests.specs.Resizing.{ofLength, growth, lengthened, fitted}
 use Rattle.file_requests.specs.Requests.{longest, needs}
-use Rattle.file_requests.proofs.Changes.{longer-is}
+use Rattle.file_requests.proofs.Changes.{fitted-up}
 use Rattle.law_files.proofs.Change.{Changed}
 use Rattle.law_files.proofs.PlanLaws.{planning}
 use Rattle.law_files.proofs.Pointed.{pointed}
 use Rattle.law_files.proofs.Lengthened.{grows}
 use Rattle.law_files.proofs.GrownCard.{grown-changed}
 use Rattle.law_dirs.specs.Entries.{NewRecord}
-use Rattle.law_dirs.proofs.RecordBytes.{encoded-length, record-cleaned}
+use Rattle.law_dirs.proofs.RecordBytes.{encoded-length}
 use Rattle.law_dirs.proofs.NewInode.{Fresh}
 
 -- ---- as it is written
@@ -160,9 +160,5 @@ module _ (img l : List ℕ) (s : Sound img l) (bytes : Bytes img) (n : ℕ) (h :
       ∙ ap (λ (b : BlockId). b .0) (getD-set-other (directs img n) 0 j (blockId (a .0)) (blockId 0) (λ y. omega arith))
       ∙ getD-words 12 img (4096 * n + 12) j q)
 
-  pub direct-kept : (j : ℕ) → 1 ≤ j → j < 12 → direct (resized (blocks img) n (inodeAt img n k) len img) n j ≡ direct img n j
-  unfolding resized
-  direct-kept j p q =
-      let z : size img n ≤ len = omega (arith, s .inode n h .shape .counted) in
-      rw (lt-ltb (count img n) (blocksFor len) up, longer-is (blocks img) n (inodeAt img n k) len img z)
-      (direct-is (record-cleaned s h up changed) j q ∙ mid-direct j p q)
+  pub direct-kept : (j : ℕ) → 1 ≤ j → j < 12 → direct (fitted (blocks img) n (inodeAt img n k) len img) n j ≡ direct img n j
+  direct-kept j p q = rw (fitted-up (blocks img) n (inodeAt img n k) len img up) (mid-direct j p q)

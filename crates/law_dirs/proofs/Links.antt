@@ -31,8 +31,8 @@ use Rattle.card_rules.specs.Same.{SameBlock, SameFile}
 use Rattle.card_rules.proofs.Frames.{block-from, block-slot, block-sym, block-trans, seconds-fit, inode-room}
 use Rattle.card_rules.proofs.Kept.{SameSuper, SameMap, super-block, map-blocks, bit-of, slots-few, magic-is, blocks-is, unused-is, maps-is}
 use Rattle.card_rules.proofs.Isolation.{Within, Balanced, others-same, sound-one}
-use Rattle.file_requests.specs.Resizing.{cleaned, lengthened, resized}
-use Rattle.file_requests.proofs.Changes.{longer-is}
+use Rattle.file_requests.specs.Resizing.{lengthened, fitted}
+use Rattle.file_requests.proofs.Changes.{fitted-up, fitted-down, fitted-within}
 use Rattle.file_requests.specs.Requests.{longest, needs}
 use Rattle.law_files.proofs.Change.{Changed}
 use Rattle.law_files.proofs.PlanLaws.{planning}
@@ -40,10 +40,10 @@ use Rattle.law_files.proofs.Pointed.{pointed}
 use Rattle.law_files.proofs.Lengthened.{grows}
 use Rattle.law_files.proofs.GrownCard.{grown-changed}
 use Rattle.law_files.proofs.Shortened.{shorter-changed, same-changed}
-use Rattle.law_files.proofs.Resized.{Resized, in-use-is, resized-up, resized-down}
+use Rattle.law_files.proofs.Resized.{in-use-is, resized-still}
 use Rattle.law_files.proofs.Edits.{Edited, edited-trans}
 use Rattle.law_dirs.specs.Entries.{Relinked as ButLinks}
-use Rattle.law_dirs.proofs.RecordBytes.{SameTail, tail-trans, tail-record, tail-lengthened, tail-shorter, tail-size, record-cleaned}
+use Rattle.law_dirs.proofs.RecordBytes.{SameTail, tail-trans, tail-record, tail-lengthened, tail-shorter, tail-size}
 use Rattle.law_dirs.proofs.LinkBytes.{relinked, encoded-links, lengthened-links, shorter-links, size-links}
 
 -- ---- the two bytes of links
@@ -294,19 +294,16 @@ pub record ResizedWith (img out : List ℕ) (n len v : ℕ) : Type 0 where
   pub places : (p : Place) → InUse img n p → InUse out n p → held out n p ≡ held img n p
   -- bytes below both lengths stay
   pub kept : (o : ℕ) → o < size img n → o < len → fileByte out n o ≡ fileByte img n o
-  -- "If the block count grows, bytes from old size to new are zeroed, and no others."
-  pub zeros : count img n < blocksFor len → (o : ℕ) → size img n ≤ o → o < len → fileByte out n o ≡ 0
-  -- "bytes appear as the block holds them"
-  pub shown : blocksFor len ≤ count img n → (o : ℕ) → o < 4096 * blocksFor len → fileByte out n o ≡ fileByte img n o
   pub tail : SameTail img out n
 
 pub resized-edited : {img out : List ℕ} {n len v : ℕ} → ResizedWith img out n len v → Edited img out n
 resized-edited r = record { within = r .within; balanced = r .balanced; bytes = r .bytes; kind-is = r .kind-is }
 
 module _ (img l : List ℕ) (s : Sound img l) (bytes : Bytes img) (n : ℕ) (h : 0 < cnt n l) (v : ℕ) (low : v < 65536) where
-  with-links : {out : List ℕ} {len : ℕ} → Resized (relinked img n v) out n len → SameTail img out n → ResizedWith img out n len v
-  with-links {out} {len} r tail =
+  with-links : {out : List ℕ} {len : ℕ} → Changed (relinked img n v) out n len → SameTail img out n → ResizedWith img out n len v
+  with-links {out} {len} c tail =
       let t = links-put img l s bytes n h v low in
+      let r = resized-still {z = 0} (t .sound) h (omega arith) c in
       let e : Edited img out n =
       edited-trans (edited-far img l s n h v bytes) (record { within = r .within; balanced = r .balanced; bytes = r .bytes; kind-is = r .kind-is }) in
       record {
@@ -318,8 +315,6 @@ module _ (img l : List ℕ) (s : Sound img l) (bytes : Bytes img) (n : ℕ) (h :
         links-is = r .links-is ∙ t .links-is;
         places = λ p x y. r .places p (in-use-is (relinked img n v) img n (sym (t .count-is)) p x) y ∙ t .places p x;
         kept = λ o a b. r .kept o (rw (t .size-is) a) b ∙ t .kept o (omega (arith, inode-room (s .inode n h)));
-        zeros = λ u o a b. r .zeros (rw (t .count-is) u) o (rw (t .size-is) a) b;
-        shown = λ u o a. r .shown (rw (t .count-is) u) o a ∙ t .kept o (omega arith);
         tail = tail;
       }
 
@@ -328,58 +323,29 @@ module _ (img l : List ℕ) (s : Sound img l) (bytes : Bytes img) (n : ℕ) (h :
   on-card c = omega (arith, inode-below img l s n h, s .sized .long, c .balanced .steady .length-same)
 
   module _ (k : FileType) (e : kind img n ≡ kindNo k) (len : ℕ) (short : len ≤ longest) (room : needs (count img n) len ≤ unused img) where
-    up : count img n < blocksFor len → ResizedWith img (resized (blocks img) n (withLinks (inodeAt img n k) v) len img) n len v
-    unfolding resized
+    up : count img n < blocksFor len → ResizedWith img (fitted (blocks img) n (withLinks (inodeAt img n k) v) len img) n len v
     up u =
         let r : owned (blocksFor len) ≤ owned (count img n) + unused img = omega arith in
         let plan = planning img l s n h (blocksFor len) (omega arith) r in
         let c = grown-changed s h u r (grows img l s bytes n h len (omega arith) u r plan k e (pointed img l s bytes n h (blocksFor len) u r plan k)) in
-        let t = links-put img l s bytes n h v low in
-        let mid : List ℕ = relinked (lengthened (blocks img) n (inodeAt img n k) len img) n v in
-        let same : cleaned (blocks (relinked img n v)) n (size (relinked img n v) n) len mid ≡ cleaned (blocks img) n (size img n) len mid =
-        ap (λ (b : ℕ). cleaned b n (size (relinked img n v) n) len mid) (t .balanced .steady .blocks-same)
-        ∙ ap (λ (z : ℕ). cleaned (blocks img) n z len mid) (t .size-is) in
-        let z : size img n ≤ len = omega (arith, s .inode n h .shape .counted) in
-        rw (
-          lt-ltb (count img n) (blocksFor len) u,
-          longer-is (blocks img) n (withLinks (inodeAt img n k) v) len img z,
-          lengthened-links (blocks img) n (inodeAt img n k) v len img,
-        )
-        (with-links
-        (subst (λ (x : List ℕ). Resized (relinked img n v) x n len) same
-        (resized-up (t .sound) h (rw (t .count-is) u) (changed-links s bytes h v low c)))
-        (subst (λ (x : List ℕ). SameTail img x n) same
-        (tail-trans (tail-lengthened img bytes n k v len (blocks img) (on-card c))
-        (tail-record (record-cleaned (t .sound) h (rw (t .count-is) u) (changed-links s bytes h v low c))))))
+        rw (fitted-up (blocks img) n (withLinks (inodeAt img n k) v) len img u, lengthened-links (blocks img) n (inodeAt img n k) v len img)
+        (with-links (changed-links s bytes h v low c) (tail-lengthened img bytes n k v len (blocks img) (on-card c)))
 
     not-up : blocksFor len ≤ count img n → Dec (blocksFor len < count img n)
-        → ResizedWith img (resized (blocks img) n (withLinks (inodeAt img n k) v) len img) n len v
-    unfolding resized
+        → ResizedWith img (fitted (blocks img) n (withLinks (inodeAt img n k) v) len img) n len v
     not-up d (yes u) =
-        let t = links-put img l s bytes n h v low in
-        rw (
-          le-ltb (count img n) (blocksFor len) d,
-          lt-ltb (blocksFor len) (count img n) u,
-          shorter-links (blocks img) n (inodeAt img n k) v len img,
-        )
-        (with-links
-        (resized-down (t .sound) h (rw (t .count-is) d) (changed-links s bytes h v low (shorter-changed img l s bytes n h len (omega arith) k e u)))
-        (tail-shorter img bytes n k v len (blocks img) (on-card (shorter-changed img l s bytes n h len (omega arith) k e u))))
+        let c = shorter-changed img l s bytes n h len (omega arith) k e u in
+        rw (fitted-down (blocks img) n (withLinks (inodeAt img n k) v) len img u, shorter-links (blocks img) n (inodeAt img n k) v len img)
+        (with-links (changed-links s bytes h v low c) (tail-shorter img bytes n k v len (blocks img) (on-card c)))
     not-up d (no u) =
-        let t = links-put img l s bytes n h v low in
-        rw (
-          le-ltb (count img n) (blocksFor len) d,
-          le-ltb (blocksFor len) (count img n) (omega arith),
-          size-links (blocks img) n (inodeAt img n k) v len img,
-        )
+        rw (fitted-within (blocks img) n (withLinks (inodeAt img n k) v) len img (omega arith), size-links (blocks img) n (inodeAt img n k) v len img)
         (with-links
-        (resized-down (t .sound) h (rw (t .count-is) d)
-        (changed-links s bytes h v low (same-changed img l s bytes n h len (omega arith) k e (omega arith))))
+        (changed-links s bytes h v low (same-changed img l s bytes n h len (omega arith) k e (omega arith)))
         (tail-size img bytes n k v len (omega (arith, inode-below img l s n h, s .sized .long))))
 
-    pub links-change : ResizedWith img (resized (blocks img) n (withLinks (inodeAt img n k) v) len img) n len v
+    pub links-change : ResizedWith img (fitted (blocks img) n (withLinks (inodeAt img n k) v) len img) n len v
     links-change = go (decLt (count img n) (blocksFor len))
       where
-        go : Dec (count img n < blocksFor len) → ResizedWith img (resized (blocks img) n (withLinks (inodeAt img n k) v) len img) n len v
+        go : Dec (count img n < blocksFor len) → ResizedWith img (fitted (blocks img) n (withLinks (inodeAt img n k) v) len img) n len v
         go (yes u) = up u
         go (no u) = not-up (omega arith) (decLt (blocksFor len) (count img n))

@@ -150,14 +150,3 @@ module _ (img : List ℕ) (bytes : Bytes img) (n : ℕ) (k : FileType) (v len : 
 
   pub tail-size : 4096 * n + 80 ≤ length img → SameTail img (relinked (encoded img n (withSize (inodeAt img n k) len)) n v) n
   tail-size room = tail-encoded img n (withSize (inodeAt img n k) len) v room bytes refl refl
-
--- zeroes in the data leave the record
-pub record-cleaned : {img mid l : List ℕ} {n len : ℕ} → Sound img l → 0 < cnt n l → count img n < blocksFor len → Changed img mid n len
-    → SameRecord mid (cleaned (blocks img) n (size img n) len mid) n
-record-cleaned {img} {mid} {l} {n} {len} s h d c =
-    let m : Sound mid l = sound-one s h (c .within) (c .balanced) in
-    let counted : count mid n ≡ blocksFor len = c .balanced .inode .shape .counted ∙ ap blocksFor (c .size-is) in
-    rw (← c .balanced .steady .blocks-same)
-    (data-slots m h
-    (filled-within m (c .bytes) n h true [] (size img n) len (omega (arith, s .inode n h .shape .counted)) (omega (arith, counted)))
-    .rec)

@@ -22,7 +22,7 @@ use Rattle.card_rules.specs.Same.{SameRecord}
 use Rattle.card_rules.proofs.Kept.{slots-few}
 use Rattle.card_rules.proofs.Isolation.{data-slots}
 use Rattle.card_rules.proofs.Frames.{inode-room, size-is, links-is, count-is, indirect-is, double-is, padding-is, device-is, directs-is}
-use Rattle.file_requests.specs.Resizing.{resized}
+use Rattle.file_requests.specs.Resizing.{fitted}
 use Rattle.file_requests.specs.Requests.{needs}
 use Rattle.dir_entries.specs.Entries.{entryAt, entryPut, removed}
 use Rattle.law_files.proofs.Resized.{held-is, in-use-is}
@@ -105,8 +105,8 @@ module _ (img l : List ℕ) (s : Sound img l) (bytes : Bytes img) (n : ℕ) (h :
   unfolding removed
   remove-entry =
       removed-by s h even there p
-      (subst (λ (b : ℕ). ResizedWith mid (resized b n (withLinks (inodeAt img n k) v) (size img n - 260) mid) n (size img n - 260) v) same
-      (subst (λ (d : DiskINode). ResizedWith mid (resized (blocks mid) n (withLinks d v) (size img n - 260) mid) n (size img n - 260) v)
+      (subst (λ (b : ℕ). ResizedWith mid (fitted b n (withLinks (inodeAt img n k) v) (size img n - 260) mid) n (size img n - 260) v) same
+      (subst (λ (d : DiskINode). ResizedWith mid (fitted (blocks mid) n (withLinks d v) (size img n - 260) mid) n (size img n - 260) v)
       (inodeAt-same (p .rec) k)
       (links-change mid l (p .sound) (p .edited .bytes) n h v low k (p .kind-is ∙ kind-as) (size img n - 260)
       (omega (arith, num-lt 4 img (4096 * n) bytes)) (omega (arith, none)))))

@@ -29,12 +29,14 @@ use Rattle.card_rules.proofs.Cells.{held-owned, owned-held}
 use Rattle.card_rules.proofs.Owners.{held-below, places-differ}
 use Rattle.file_blocks.specs.Bytes.{filled}
 use Rattle.file_requests.specs.Requests.{filedNo, endOf, resizeAnswer, resizeCard, writeAnswer, writeCard, readBuffer}
-use Rattle.law_files.specs.Effects.{ReadEffect, ChangeEffect, NewRoom, ResizeEffect, WriteEffect}
+use Rattle.law_files.specs.Effects.{ReadEffect, ChangeEffect, Lowest, ResizeEffect, WriteEffect}
 use Rattle.law_files.proofs.Requests.{of-kind, resize-dir, resize-done}
 use Rattle.law_files.proofs.Only.{Only, only-resized}
 use Rattle.law_files.proofs.Lengths.{length-change}
 use Rattle.law_files.proofs.Return.{in-use-more}
-use Rattle.law_files.proofs.Writing.{Wrote, refused, reached, wrote, size-wrote, there, elsewhere, only-wrote}
+use Rattle.law_files.proofs.TailShown.{resize-shows}
+use Rattle.law_files.proofs.Lowest.{resize-lowest}
+use Rattle.law_files.proofs.Writing.{Wrote, refused, reached, wrote, size-wrote, count-wrote, there, elsewhere, stood-wrote, lowest-wrote, only-wrote}
 use Rattle.law_files.proofs.Files.{of-file, refused-exactly, read-bytes, read-past, read-length}
 
 -- ---- one file has changed: what it has less or more is what the map has more or less
@@ -94,8 +96,8 @@ module _ {img out : List ℕ} (w : Whole img) (n : ℕ) (h : Reached img n) (sou
         let e = places-differ out (w .inodes) sound n n (o .0) p listed listed v u (places (o .0) (o .1) v ∙ o .2) .1 in
         absurd (new (subst (InUse img n) e (o .1)))
 
-pub changed : {img out : List ℕ} (w : Whole img) (n : ℕ) → Reached img n → Only (w .inodes) img out n → ChangeEffect img out n
-changed {img} {out} w n h x =
+pub changed : {img out : List ℕ} (w : Whole img) (n : ℕ) → Reached img n → Only (w .inodes) img out n → Lowest img out n → ChangeEffect img out n
+changed {img} {out} w n h x low =
     record {
       kind-is = x .kind-same;
       links-is = x .links-same;
@@ -104,6 +106,7 @@ changed {img} {out} w n h x =
           free w n h (x .sound) (x .blocks-same) (x .maps-same) (x .others) (x .places) p u new
           (decLe (count img n) (count out n))
           (decLt (mapBit img (held out n p)) 1);
+      lowest = low;
       takes = takes w n h (x .sound) (x .blocks-same) (x .maps-same) (x .others);
       others = λ m r d. x .others m (omega (arith, w .tree .all m r)) d;
     }
@@ -139,9 +142,12 @@ module _ {img : List ℕ} (w : Whole img) (b : Bytes img) (n : ℕ) (h : Reached
       (record {
         size-is = r .size-is;
         count-is = omega (arith, x .sound .inode n listed-in .shape .counted, r .size-is);
-        changed = changed w n h x;
+        changed = changed w n h x (resize-lowest img (w .inodes) (w .sound) b n listed-in (k .0) (k .1 .number) len (a .0) (omega (arith, a .1)));
         kept = r .kept;
-        room = λ o p q. record { zeros = λ g. r .zeros g o p q; shown = λ g. r .shown g o (omega arith) };
+        zeros = r .zeros;
+        beyond = λ o p q.
+            resize-shows img (w .inodes) (w .sound) b n listed-in (k .0) (k .1 .number) len (a .0) (omega (arith, a .1)) o p
+            (omega (arith, x .sound .inode n listed-in .shape .counted, r .size-is));
       })
 
 -- ---- write
@@ -159,19 +165,19 @@ module _ {img : List ℕ} (w : Whole img) (b : Bytes img) (n : ℕ) (h : Reached
     where
       go : Wrote (w .inodes) img n off src → WriteEffect img out n off src (length src)
       go (refused d e) = absurd (d done)
-      go (reached mid d x z g gap y e) =
+      go (reached mid d x z g low gap beyond y e) =
           rw e
           (record {
             returns = refl;
             size-is = size-wrote b n in-list off src x z;
             count-is = v .sound .inode n in-list .shape .counted;
-            changed = changed w n h v;
+            changed = changed w n h v (lowest-wrote b n in-list off src x z low);
             written = there b n in-list off src x z;
             kept = λ o p q. elsewhere b n in-list off src x z o (omega (arith, z)) (outside o q) ∙ g o p;
-            room = λ o p q.
-                let t = gap o p (omega arith) in
-                let s = elsewhere b n in-list off src x z o (omega (arith, z)) (λ i j. omega arith) in
-                record { zeros = λ i. s ∙ t .zeros i; shown = λ i. s ∙ t .shown i };
+            gap = λ o p q. elsewhere b n in-list off src x z o (omega (arith, z)) (λ i j. omega arith) ∙ gap o p q;
+            beyond = λ o p q.
+                stood-wrote b n in-list off src x z o (omega (arith, size-wrote b n in-list off src x z)) (omega (arith, count-wrote b n in-list off src x z))
+                (beyond o (omega (arith, size-wrote b n in-list off src x z, z)) (omega (arith, count-wrote b n in-list off src x z)));
           })
         where
           v : Only (w .inodes) img (filled false src (blocks mid) n off (endOf off src) mid) n

@@ -146,28 +146,28 @@ module _ {img : List ℕ} (w : Whole img) (b : Bytes img) (n : ℕ) (h : Reached
     where
       go : Wrote (w .inodes) img n off src → fileByte out n (off + k) ≡ byte src k
       go (refused d e) = absurd (d done)
-      go (reached mid x o z g _ y e) = rw e (there b n given off src o z k l)
+      go (reached mid x o z g _ _ _ y e) = rw e (there b n given off src o z k l)
 
   pub write-size : size out n ≡ max (size img n) (off + length src)
   write-size = go (wrote (w .sound) (w .tree) b n given off src)
     where
       go : Wrote (w .inodes) img n off src → size out n ≡ max (size img n) (off + length src)
       go (refused d e) = absurd (d done)
-      go (reached mid x o z g _ y e) = rw e (size-wrote b n given off src o z)
+      go (reached mid x o z g _ _ _ y e) = rw e (size-wrote b n given off src o z)
 
   pub write-count : writeAnswer img n off src ≡ Count (length src)
   write-count = go (wrote (w .sound) (w .tree) b n given off src)
     where
       go : Wrote (w .inodes) img n off src → writeAnswer img n off src ≡ Count (length src)
       go (refused d e) = absurd (d done)
-      go (reached mid x o z g _ y e) = y
+      go (reached mid x o z g _ _ _ y e) = y
 
   not-dir : kind img n ≢ 2
   not-dir = go (wrote (w .sound) (w .tree) b n given off src)
     where
       go : Wrote (w .inodes) img n off src → kind img n ≢ 2
       go (refused d e) = absurd (d done)
-      go (reached mid x o z g _ y e) = x
+      go (reached mid x o z g _ _ _ y e) = x
 
   -- a read of as many bytes from there gives them all
   pub read-back : (buf : List ℕ) → length buf ≡ length src

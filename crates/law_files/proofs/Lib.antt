@@ -26,3 +26,4 @@ pub mod Files
 pub mod Effects
 pub mod Edits
 pub mod TailShown
+pub mod Lowest

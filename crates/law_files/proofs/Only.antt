@@ -47,8 +47,8 @@ module _ {l img : List ℕ} (s : Sound img l) (t : Tree img l) (b : Bytes img) w
         places = λ p _ _. refl;
       }
 
-  pub only-resized : {out : List ℕ} {n len : ℕ} → 0 < cnt n l → kind img n ≢ 2 → Resized img out n len → Only l img out n
-  only-resized {out} {n} {len} h k r =
+  pub only-resized : {out : List ℕ} {n len z : ℕ} → 0 < cnt n l → kind img n ≢ 2 → Resized img out n len z → Only l img out n
+  only-resized {out} {n} {len} {z} h k r =
       let w = whole-one (wholeOf s t) h (r .within) k (r .kind-is) (r .links-is) (r .balanced) in
       record {
         sound = w .sound;

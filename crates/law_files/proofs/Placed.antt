@@ -1,12 +1,11 @@
 -- A file that grows, by its blocks: each place holds the block of the plan, and the lowest free blocks are gone from the map. `img` is the card before,
 -- `out` the card after. Assumes nothing.
-use mathlib.Core.Path.{_≡_, _∙_, subst}
+use mathlib.Core.Path.{_≡_, sym, ap, _∙_, subst}
 use mathlib.Core.Logic.{_≢_}
 use mathlib.Core.Bool.{true}
 use mathlib.Core.List.{List, []}
 use Prim.Native.Nat.{ℕ, _+_, _*_, _≤_, _<_}
 use native.Mathlib.Omega.{arith}
-use borrow.Author.Tests.{lt-ltb}
 use Rattle.words.specs.Words.{Bytes}
 use Rattle.words.specs.Sums.{cnt}
 use Rattle.card_layout.specs.Sizes.{blocksFor}
@@ -21,8 +20,8 @@ use Rattle.card_rules.specs.Places.{Place, held}
 use Rattle.card_rules.proofs.Kept.{slots-few, bit-of}
 use Rattle.card_rules.proofs.Isolation.{WithinData, sound-one, data-slots, data-map}
 use Rattle.file_grow.proofs.Taken.{nthFree, nth-below}
-use Rattle.file_requests.specs.Resizing.{lengthened, cleaned, resized}
-use Rattle.file_requests.proofs.Changes.{longer-is}
+use Rattle.file_requests.specs.Resizing.{lengthened, cleaned, fitted, resized}
+use Rattle.file_requests.proofs.Changes.{fitted-up, new-some, resized-is}
 use Rattle.file_requests.specs.Requests.{longest, needs}
 use Rattle.law_files.proofs.Change.{Changed}
 use Rattle.law_files.proofs.Plan.{Had, had-in-use, planned, more, Planning, Grown}
@@ -83,8 +82,17 @@ module _ (img l : List ℕ) (s : Sound img l) (bytes : Bytes img) (n : ℕ) (h :
       nth-low : (j : ℕ) → j < more img n (blocksFor len) → nthFree (blocks img) img j < blocks img
       nth-low j q = nth-below (blocks img) img j (omega (arith, s .free, enough)) .0
 
+  -- without the zeroing
+  pub fit-placed : Placed img (fitted (blocks img) n (inodeAt img n k) len img) n len
+  fit-placed =
+      rw (fitted-up (blocks img) n (inodeAt img n k) len img up)
+      (record { places = grown .placed; gone = grown .gone; others = λ x q d. grown .others x (omega (arith, s .sized .many)) d })
+
   pub grow-placed : Placed img (resized (blocks img) n (inodeAt img n k) len img) n len
-  unfolding resized
   grow-placed =
-      let z : size img n ≤ len = omega (arith, s .inode n h .shape .counted) in
-      rw (lt-ltb (count img n) (blocksFor len) up, longer-is (blocks img) n (inodeAt img n k) len img z) after
+      let z : size img n < len = omega (arith, s .inode n h .shape .counted) in
+      let e =
+      resized-is (blocks img) n (inodeAt img n k) len img
+      ∙ new-some (blocks img) n (inodeAt img n k) len (fitted (blocks img) n (inodeAt img n k) len img) z
+      ∙ ap (cleaned (blocks img) n (size img n) len) (fitted-up (blocks img) n (inodeAt img n k) len img up) in
+      subst (λ (x : List ℕ). Placed img x n len) (sym e) after

@@ -17,7 +17,7 @@ use Rattle.card_layout.specs.declared.inode.Decoded.the-variants.{Good}
 use Rattle.card_layout.proofs.InodeLaws.{inodeAt, headBy-kind}
 use Rattle.card_rules.specs.Whole.{Inode}
 use Rattle.file_blocks.specs.Bytes.{filled, readInto}
-use Rattle.file_requests.specs.Resizing.{resized}
+use Rattle.file_requests.specs.Resizing.{fitted, newZero, resized}
 use Rattle.file_requests.specs.Requests.{
   longest,
   byKind,
@@ -153,7 +153,7 @@ module _ {img : List ℕ} {n : ℕ} {k : FileType} (o : OfKind img n k) (f : Fil
     write-file e = rw (o .decodes, e) (by-file k f _ _)
 
     pub write-done : (nb : ℕ) → writeJudged (unused img) (headAt img n k) (endOf off src) ≡ Done
-        → writeCard nb img n off src ≡ filled false src nb n off (endOf off src) (reaching nb n (inodeAt img n k) (endOf off src) img)
+        → writeCard nb img n off src ≡ filled false src nb n off (endOf off src) (reaching nb n (inodeAt img n k) off (endOf off src) img)
     unfolding writeCard
     write-done nb e = rw (o .decodes, e) (by-file k f _ _)
 
@@ -171,13 +171,14 @@ module _ {img : List ℕ} {n : ℕ} {k : FileType} (o : OfKind img n k) (f : Fil
         (by-file k f _ _)
 
   module _ (nb : ℕ) (len : ℕ) where
-    pub reaching-no : len ≤ size img n → reaching nb n (inodeAt img n k) len img ≡ img
+    pub reaching-no : (off : ℕ) → len ≤ size img n → reaching nb n (inodeAt img n k) off len img ≡ img
     unfolding reaching
-    reaching-no a = rw (le-ltb (size img n) len a)
+    reaching-no off a = rw (le-ltb (size img n) len a)
 
-    pub reaching-yes : size img n < len → reaching nb n (inodeAt img n k) len img ≡ resized nb n (inodeAt img n k) len img
+    pub reaching-yes : (off : ℕ) → size img n < len
+        → reaching nb n (inodeAt img n k) off len img ≡ newZero nb n (inodeAt img n k) off (fitted nb n (inodeAt img n k) len img)
     unfolding reaching
-    reaching-yes a = rw (lt-ltb (size img n) len a)
+    reaching-yes off a = rw (lt-ltb (size img n) len a)
 
   pub read-file : (off j : ℕ) → readAnswer img n off j ≡ Count (min (size img n) (off + j) - min (size img n) off)
   unfolding readAnswer

@@ -24,8 +24,8 @@ use Rattle.file_requests.specs.Resizing.{cleaned}
 use Rattle.law_files.proofs.Change.{Changed}
 use Rattle.law_files.proofs.Filling.{bytes-filled, filled-within, filled-comes, filled-stays}
 
--- what a change of inode n's length to len leaves of a card
-pub record Resized (img out : List ℕ) (n len : ℕ) : Type 0 where
+-- what a change of inode n's length to len leaves of a card, with its new bytes up to z zero
+pub record Resized (img out : List ℕ) (n len z : ℕ) : Type 0 where
   pub within : Within img out n
   pub balanced : Balanced img out n
   pub bytes : Bytes out
@@ -36,10 +36,8 @@ pub record Resized (img out : List ℕ) (n len : ℕ) : Type 0 where
   pub places : (p : Place) → InUse img n p → InUse out n p → held out n p ≡ held img n p
   -- bytes below both lengths stay
   pub kept : (o : ℕ) → o < size img n → o < len → fileByte out n o ≡ fileByte img n o
-  -- "If the block count grows, bytes from old size to new are zeroed, and no others."
-  pub zeros : count img n < blocksFor len → (o : ℕ) → size img n ≤ o → o < len → fileByte out n o ≡ 0
-  -- "bytes appear as the block holds them"
-  pub shown : blocksFor len ≤ count img n → (o : ℕ) → o < 4096 * blocksFor len → fileByte out n o ≡ fileByte img n o
+  -- "every byte from the old size to the new reads zero after any growth"
+  pub zeros : (o : ℕ) → size img n ≤ o → o < z → fileByte out n o ≡ 0
 
 -- ---- places by slots
 
@@ -102,9 +100,9 @@ changed-byte {img} {out} {n} {len} c o a b =
     ∙ c .data-same (o / 4096) i j .bytes (o % 4096) (omega arith)
     ∙ sym (fileByte-at img n o)
 
--- the block count does not grow: nothing is zeroed
-pub resized-down : {img out l : List ℕ} {n len : ℕ} → Sound img l → 0 < cnt n l → blocksFor len ≤ count img n → Changed img out n len → Resized img out n len
-resized-down {img} {out} {l} {n} {len} s h d c =
+-- nothing is new up to z: nothing is zeroed
+pub resized-still : {img out l : List ℕ} {n len z : ℕ} → Sound img l → 0 < cnt n l → z ≤ size img n → Changed img out n len → Resized img out n len z
+resized-still {img} {out} {l} {n} {len} {z} s h d c =
     let e : count out n ≡ blocksFor len = c .balanced .inode .shape .counted ∙ ap blocksFor (c .size-is) in
     record {
       within = c .within;
@@ -115,33 +113,31 @@ resized-down {img} {out} {l} {n} {len} s h d c =
       links-is = c .links-is;
       places = c .places;
       kept = λ o a b. changed-byte c o (omega (arith, inode-room (s .inode n h))) (omega (arith, e));
-      zeros = λ u. absurd (omega arith);
-      shown = λ _ o a. changed-byte c o (omega arith) (omega (arith, e));
+      zeros = λ o a b. absurd (omega arith);
     }
 
--- it grows: the bytes from the old length on are zeroed
-pub resized-up : {img mid l : List ℕ} {n len : ℕ} → Sound img l → 0 < cnt n l → count img n < blocksFor len → Changed img mid n len
-    → Resized img (cleaned (blocks img) n (size img n) len mid) n len
-resized-up {img} {mid} {l} {n} {len} s h d c =
+-- the bytes from the old length up to z are zeroed
+pub resized-new : {img mid l : List ℕ} {n len z : ℕ} → Sound img l → 0 < cnt n l → size img n < z → z ≤ len → Changed img mid n len
+    → Resized img (cleaned (blocks img) n (size img n) z mid) n len z
+resized-new {img} {mid} {l} {n} {len} {z} s h d below c =
     rw (← c .balanced .steady .blocks-same)
     (record {
       within = within-then m h w same (c .balanced) (c .within);
       balanced = balanced-then m h w same (c .balanced) s;
-      bytes = bytes-filled true [] (blocks mid) n (size img n) len mid (record { below = λ k. omega arith }) (c .bytes);
+      bytes = bytes-filled true [] (blocks mid) n (size img n) z mid (record { below = λ k. omega arith }) (c .bytes);
       size-is = size-is (slots .rec) ∙ c .size-is;
       kind-is = kind-is (slots .rec) ∙ c .kind-is;
       links-is = links-is (slots .rec) ∙ c .links-is;
       places = λ p u v.
-          let v′ : InUse mid n p = in-use-is mid (cleaned (blocks mid) n (size img n) len mid) n (count-is (slots .rec)) p v in
+          let v′ : InUse mid n p = in-use-is mid (cleaned (blocks mid) n (size img n) z mid) n (count-is (slots .rec)) p v in
           held-is slots (slots-few m n h) p v′ ∙ c .places p u v′;
       kept = λ o a b.
-          filled-stays m (c .bytes) n h true [] (size img n) len ordered inside o (omega (arith, counted)) (λ x y. omega arith)
+          filled-stays m (c .bytes) n h true [] (size img n) z ordered inside o (omega (arith, counted)) (λ x y. omega arith)
           ∙ changed-byte c o (omega (arith, room)) (omega (arith, counted));
-      zeros = λ _ o a b.
+      zeros = λ o a b.
           let x : size img n + (o - size img n) ≡ o = omega arith in
-          subst (λ (y : ℕ). fileByte (cleaned (blocks mid) n (size img n) len mid) n y ≡ 0) x
-          (filled-comes m (c .bytes) n h true [] (size img n) len ordered inside (o - size img n) (omega arith));
-      shown = λ u. absurd (omega arith);
+          subst (λ (y : ℕ). fileByte (cleaned (blocks mid) n (size img n) z mid) n y ≡ 0) x
+          (filled-comes m (c .bytes) n h true [] (size img n) z ordered inside (o - size img n) (omega arith));
     })
   where
     m : Sound mid l
@@ -153,17 +149,17 @@ resized-up {img} {mid} {l} {n} {len} s h d c =
     room : size img n ≤ 4096 * count img n
     room = inode-room (s .inode n h)
 
-    ordered : size img n ≤ len
-    ordered = omega (arith, s .inode n h .shape .counted)
+    ordered : size img n ≤ z
+    ordered = omega arith
 
-    inside : len ≤ 4096 * count mid n
+    inside : z ≤ 4096 * count mid n
     inside = omega (arith, counted)
 
-    w : WithinData mid (cleaned (blocks mid) n (size img n) len mid) n
-    w = filled-within m (c .bytes) n h true [] (size img n) len ordered inside
+    w : WithinData mid (cleaned (blocks mid) n (size img n) z mid) n
+    w = filled-within m (c .bytes) n h true [] (size img n) z ordered inside
 
-    same : length (cleaned (blocks mid) n (size img n) len mid) ≡ length mid
-    same = length-filled true [] (blocks mid) (size img n) len n mid
+    same : length (cleaned (blocks mid) n (size img n) z mid) ≡ length mid
+    same = length-filled true [] (blocks mid) (size img n) z n mid
 
-    slots : SameSlots mid (cleaned (blocks mid) n (size img n) len mid) n
+    slots : SameSlots mid (cleaned (blocks mid) n (size img n) z mid) n
     slots = data-slots m h w

@@ -3,7 +3,7 @@ use mathlib.Core.Path.{_≡_, refl, sym, ap, _∙_, subst}
 use mathlib.Core.Logic.{_≢_}
 use mathlib.Core.Bool.{Bool, true, false}
 use mathlib.Core.List.{List}
-use Prim.Native.Nat.{ℕ, _+_, _-_, _*_, _≤_, _<_, max}
+use Prim.Native.Nat.{ℕ, _+_, _-_, _*_, _/_, _%_, _≤_, _<_, max}
 use native.Mathlib.Omega.{arith}
 use native.Mathlib.Decide.{decLt, ℕ-discrete}
 use borrow.Author.Tests.{eq-eqb, ne-eqb, lt-ltb, le-ltb}
@@ -15,21 +15,24 @@ use Rattle.card_layout.specs.Super.{blocks, unused}
 use Rattle.card_layout.specs.Inode.{size, kind, count, headAt}
 use Rattle.card_layout.specs.declared.inode.FileType.{FileType}
 use Rattle.card_layout.specs.declared.inode.FileType.the-variants.{File, Dir, SymLink}
-use Rattle.card_rules.specs.View.{fileByte}
+use Rattle.card_rules.specs.View.{fileByte, dataAt}
+use Rattle.card_rules.proofs.Views.{fileByte-at}
 use Rattle.card_rules.specs.Whole.{Sound, Tree}
-use Rattle.card_rules.proofs.Frames.{size-is, inode-room}
+use Rattle.card_rules.proofs.Frames.{size-is, count-is, data-is, inode-room}
 use Rattle.card_rules.proofs.Isolation.{WithinData, data-slots}
 use Rattle.file_blocks.specs.Bytes.{filled}
 use Rattle.file_blocks.proofs.Lengths.{length-filled}
 use Rattle.card_layout.proofs.InodeLaws.{inodeAt}
-use Rattle.file_requests.specs.Resizing.{resized}
+use Rattle.file_requests.specs.Resizing.{fitted, newZero}
 use Rattle.file_requests.specs.Requests.{longest, needs, endOf, filedNo, writeAnswer, writeCard}
 use Rattle.file_requests.specs.declared.Filed.the-variants.{Count}
 use Rattle.law_files.specs.Requests.{Request, reading, writing, resizing, OfBytes}
 use Rattle.law_files.specs.Inner.{answered, after, written}
 use Rattle.law_files.proofs.Filling.{bytes-filled, filled-within, filled-comes, filled-stays}
-use Rattle.law_files.proofs.Lengths.{length-change}
-use Rattle.law_files.specs.Effects.{NewRoom}
+use Rattle.law_files.proofs.Lengths.{zeroed-change}
+use Rattle.law_files.proofs.TailShown.{change-shows}
+use Rattle.law_files.proofs.Lowest.{data-lowest, change-lowest}
+use Rattle.law_files.specs.Effects.{Stood, Lowest}
 use Rattle.law_files.proofs.Only.{Only, only-refl, only-resized, only-data}
 use Rattle.law_files.proofs.Requests.{
   OfKind,
@@ -59,7 +62,8 @@ pub data Wrote (l img : List ℕ) (n off : ℕ) (src : List ℕ) : Type 0 where
   refused : filedNo (writeAnswer img n off src) ≢ 0 → writeCard (blocks img) img n off src ≡ img → Wrote l img n off src
   reached : (mid : List ℕ) → kind img n ≢ 2 → Only l img mid n → size mid n ≡ max (size img n) (endOf off src)
       → ((o : ℕ) → o < size img n → fileByte mid n o ≡ fileByte img n o)
-      → ((o : ℕ) → size img n ≤ o → o < endOf off src → NewRoom img mid n (endOf off src) o) → writeAnswer img n off src ≡ Count (length src)
+      → Lowest img mid n → ((o : ℕ) → size img n ≤ o → o < off → fileByte mid n o ≡ 0) → ((o : ℕ) → size mid n ≤ o → o < 4096 * count mid n → Stood img mid n o)
+      → writeAnswer img n off src ≡ Count (length src)
       → writeCard (blocks img) img n off src ≡ filled false src (blocks mid) n off (endOf off src) mid → Wrote l img n off src
 
 module _ {l img : List ℕ} (s : Sound img l) (t : Tree img l) (b : Bytes img) (n : ℕ) (h : 0 < cnt n l) (off : ℕ) (src : List ℕ) where
@@ -71,8 +75,8 @@ module _ {l img : List ℕ} (s : Sound img l) (t : Tree img l) (b : Bytes img) (
     write-in : endOf off src ≤ size img n → Wrote l img n off src
     write-in e =
         let j = write-inside (unused img) (headAt img n k) (endOf off src) e in
-        reached img not-dir (only-refl s t b n) (omega arith) (λ p a. refl) (λ p a l. absurd (omega arith)) (write-file o f off src j)
-        (write-done o f off src (blocks img) j ∙ ap (filled false src (blocks img) n off (endOf off src)) (reaching-no o f (blocks img) (endOf off src) e))
+        reached img not-dir (only-refl s t b n) (omega arith) (λ p a. refl) (λ p u new. absurd (new u)) (λ p a l. absurd (omega arith)) (λ p a l. fileByte-at img n p) (write-file o f off src j)
+        (write-done o f off src (blocks img) j ∙ ap (filled false src (blocks img) n off (endOf off src)) (reaching-no o f (blocks img) (endOf off src) off e))
 
     -- past it: the length changes first, where 12 and 14 allow
     write-out : size img n < endOf off src → Dec (longest < endOf off src) → Dec (unused img < needs (count img n) (endOf off src)) → Wrote l img n off src
@@ -88,13 +92,18 @@ module _ {l img : List ℕ} (s : Sound img l) (t : Tree img l) (b : Bytes img) (
         (write-full o f off src (blocks img) (omega arith) e d)
     write-out e (no a) (no d) =
         let j = write-past (unused img) (headAt img n k) (endOf off src) e ∙ judged-fine (unused img) (headAt img n k) (endOf off src) (omega arith) (omega arith) in
-        let r = length-change img l s b n h k (o .number) (endOf off src) (omega arith) (omega arith) in
+        let r = zeroed-change img l s b n h k (o .number) (endOf off src) (omega arith) (omega arith) off (omega arith) in
         let x = only-resized s t b h not-dir r in
         reached _ not-dir x (omega (arith, r .size-is)) (λ p a. r .kept p a (omega arith))
-        (λ p a l. record { zeros = λ g. r .zeros g p a l; shown = λ g. r .shown g p (omega arith) }) (write-file o f off src j)
+        (change-lowest img l s b n h k (o .number) (endOf off src) (omega arith) (omega arith) off (omega arith))
+        (λ p a l. r .zeros p a l)
+        (λ p i q.
+        change-shows img l s b n h k (o .number) (endOf off src) (omega arith) (omega arith) off (omega arith) p
+        (omega (arith, r .balanced .inode .shape .counted, r .size-is)) (λ u v. omega (arith, r .size-is)))
+        (write-file o f off src j)
         (write-done o f off src (blocks img) j
-        ∙ ap (filled false src (blocks img) n off (endOf off src)) (reaching-yes o f (blocks img) (endOf off src) e)
-        ∙ ap (λ (nb : ℕ). filled false src nb n off (endOf off src) (resized (blocks img) n (inodeAt img n k) (endOf off src) img)) (sym (x .blocks-same)))
+        ∙ ap (filled false src (blocks img) n off (endOf off src)) (reaching-yes o f (blocks img) (endOf off src) off e)
+        ∙ ap (λ (nb : ℕ). filled false src nb n off (endOf off src) (newZero (blocks img) n (inodeAt img n k) off (fitted (blocks img) n (inodeAt img n k) (endOf off src) img))) (sym (x .blocks-same)))
 
     write-tests : Dec (size img n < endOf off src) → Wrote l img n off src
     write-tests (yes e) = write-out e (decLt longest (endOf off src)) (decLt (unused img) (needs (count img n) (endOf off src)))
@@ -159,6 +168,9 @@ module _ {l img mid : List ℕ} (b : Bytes img) (n : ℕ) (h : 0 < cnt n l) (off
   pub size-wrote : size out n ≡ max (size img n) (endOf off src)
   size-wrote = size-is (data-slots (x .sound) h fills .rec) ∙ e
 
+  pub count-wrote : count (filled false src (blocks mid) n off (endOf off src) mid) n ≡ count mid n
+  count-wrote = count-is (data-slots (x .sound) h fills .rec)
+
   pub there : (k : ℕ) → k < length src → fileByte out n (off + k) ≡ byte src k
   there k l = filled-comes (x .sound) (x .bytes) n h false src off (endOf off src) (omega arith) inside k (omega arith)
 
@@ -167,6 +179,17 @@ module _ {l img mid : List ℕ} (b : Bytes img) (n : ℕ) (h : 0 < cnt n l) (off
       filled-stays (x .sound) (x .bytes) n h false src off (endOf off src) (omega arith) inside o
       (omega (arith, e, inode-room (x .sound .inode n h)))
       d
+
+  -- past the end the blocks hold what they held
+  pub stood-wrote : (o : ℕ) → max (size img n) (endOf off src) ≤ o → o < 4096 * count mid n → Stood img mid n o
+      → Stood img (filled false src (blocks mid) n off (endOf off src) mid) n o
+  stood-wrote o a b q =
+      filled-stays (x .sound) (x .bytes) n h false src off (endOf off src) (omega arith) inside o b (λ u v. omega arith)
+      ∙ q
+      ∙ ap (λ (y : ℕ). byte img (4096 * y + o % 4096)) (sym (data-is (data-slots (x .sound) h fills) (o / 4096) (omega arith)))
+
+  pub lowest-wrote : Lowest img mid n → Lowest img (filled false src (blocks mid) n off (endOf off src) mid) n
+  lowest-wrote = data-lowest (x .sound) h (x .blocks-same) fills
 
   module _ (s : Sound img l) (t : Tree img l) (c : Bytes src) (k : kind img n ≢ 2) where
     pub only-wrote : Only l img out n
@@ -200,7 +223,7 @@ module _ {l img : List ℕ} (s : Sound img l) (t : Tree img l) (b : Bytes img) (
     where
       go : Wrote l img n off src → Step l img (writeCard (blocks img) img n off src) (writing n off src)
       go (refused d e) = rw e (step-none s t b (writing n off src) (written-not l img n off src d))
-      go (reached mid k x z g _ done e) = rw e (step-reached b n h off src x z s t c k g done)
+      go (reached mid k x z g _ _ _ done e) = rw e (step-reached b n h off src x z s t c k g done)
 
 -- ---- any request
 

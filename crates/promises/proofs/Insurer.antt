@@ -1,5 +1,5 @@
 -- The insurer's answer (specs/Insurer) holds. Assumes nothing.
-use mathlib.Core.Path.{_≡_, ap, sym, _∙_, subst}
+use mathlib.Core.Path.{_≡_, refl, ap, sym, _∙_, subst}
 use Prim.Native.Nat.{ℕ, _+_, _-_, _≤_, _<_}
 use native.Mathlib.Omega.{arith}
 use mathlib.Core.List.{List}
@@ -8,16 +8,20 @@ use lib.ListN.{length}
 use Rattle.words.specs.Words.{byte, Bytes}
 use Rattle.words.specs.Sums.{δ}
 use Rattle.words.proofs.Sums.{sumOn-nil}
+use Rattle.card_layout.specs.Super.{blocks}
 use Rattle.card_layout.specs.Inode.{size, kind}
 use Rattle.card_rules.specs.View.{fileByte}
 use Rattle.card_rules.specs.Whole.{Reached, Whole}
-use Rattle.call_said.specs.Said.{saidNo, saidValue, ofActed}
+use Rattle.call_said.specs.Said.{saidNo, saidValue, ofFiled, ofActed}
 use Rattle.call_said.specs.declared.Said.{Said}
 use Rattle.call_files.specs.FileCalls.{Read, Written}
-use Rattle.law_files.specs.Requests.{writing}
-use Rattle.law_files.specs.Effects.{WriteEffect}
-use Rattle.law_calls.specs.Calls.{write}
-use Rattle.law_calls.specs.Made.{file, Made, filed, Asks}
+use Rattle.file_requests.specs.Requests.{resizeAnswer, resizeCard}
+use Rattle.dir_create.specs.Create.{createAnswer, createCard}
+use Rattle.law_files.specs.Requests.{writing, resizing}
+use Rattle.law_files.specs.Effects.{WriteEffect, ResizeEffect}
+use Rattle.law_dirs.specs.Effects.{CreateEffect}
+use Rattle.law_calls.specs.Calls.{write, resize}
+use Rattle.law_calls.specs.Made.{file, creating, Made, filed, create, Asks}
 use Rattle.law_calls.specs.Runs.{Call, Done, Run, none, next, lastPut}
 use Rattle.law_calls.specs.Paths.{OnWay}
 use Rattle.law_calls.proofs.Made.{made-whole, made-bytes}
@@ -26,7 +30,10 @@ use Rattle.law_calls.proofs.Runs.{run-whole, run-bytes, run-stays, run-data, ru
 use Rattle.law_calls.proofs.Finds.{run-finds}
 use Rattle.law_calls.proofs.Paths.{run-path, run-path-data, run-name-data}
 use Rattle.law_calls.proofs.Says.{find-inode}
-use Rattle.law_calls.proofs.FileEffects.{read-gives, write-done, write-of}
+use Rattle.law_calls.proofs.Acts.{Acts, acts}
+use Rattle.law_calls.proofs.Shown.{run-shown}
+use Rattle.law_calls.proofs.Effects.{created-effect}
+use Rattle.law_calls.proofs.FileEffects.{read-gives, write-done, write-of, resize-done}
 use Rattle.promises.specs.Insurer.{
   Beside,
   Answer,
@@ -43,6 +50,8 @@ use Rattle.promises.specs.Insurer.{
   Gives,
   WrittenIsRead,
   StoredIsRead,
+  ShowsOwn,
+  ShortenedIsGone,
 }
 
 pub answer : Answer
@@ -107,3 +116,58 @@ stored-is-read img mid out s s′ src cs m off o r b g c z lo hi run =
 
     v : fileByte mid m o ≡ byte src (o - off)
     v = let e : off + (o - off) ≡ o = omega arith in ap (fileByte mid m) (sym e) ∙ x .written (o - off) (omega arith)
+
+-- what m shows, a read gives
+gives : {out : List ℕ} {m o v : ℕ} → Bytes out → Reached out m → o < size out m → fileByte out m o ≡ v → Gives out m o v
+gives {out} {m} {o} b h l e = (h, e, λ s s′ buf buf′ off a c z lo hi. read-gives b z c o lo hi l ∙ e)
+
+pub shows-own : ShowsOwn
+shows-own img mid out s s′ p x k r cs o b g d c z run l =
+    gives (run-bytes now bytes run) (run-stays m (λ i j a q. q) now bytes (e .there) run .0) l
+    (run-shown m (λ i j a q. q) (λ i. 0) now bytes (e .there) (λ q. d (sym (e .file d .kind-is) ∙ q))
+    (record { below = λ i a. absurd (omega (arith, e .file d .size-is)); behind = λ i a. refl }) run
+    .below o l)
+  where
+    m : ℕ
+    m = saidValue r
+
+    a : Made img mid (creating p x k) r
+    a = create s s′ p x k r c
+
+    before : Whole img
+    before = acts (ofActed (createAnswer (blocks img) img p x k)) (createCard (blocks img) img p x k) img mid (c .opened) (c .opening) (c .said) (c .image) z .card
+
+    now : Whole mid
+    now = made-whole before b g a
+
+    bytes : Bytes mid
+    bytes = made-bytes before b g a
+
+    e : CreateEffect img mid p x k (saidValue r)
+    e = created-effect before b g c z
+
+pub shortened-is-gone : ShortenedIsGone
+shortened-is-gone img mid out s s′ t t′ n a b r q o bytes c z c′ z′ lo hi =
+    gives (made-bytes now mid-bytes tt (filed (resize t t′ n b q c′))) (made-stays now mid-bytes tt (filed (resize t t′ n b q c′)) n there (λ _. sumOn-nil (δ n)))
+    (omega (arith, y .size-is)) (y .zeros o (omega (arith, x .size-is)) hi)
+  where
+    before : Acts img n n (ofFiled (resizeAnswer img n a)) r (resizeCard (blocks img) img n a) mid
+    before = acts (ofFiled (resizeAnswer img n a)) (resizeCard (blocks img) img n a) img mid (c .opened) (c .opening) (c .said) (c .image) z
+
+    first : Made img mid (file (resizing n a)) r
+    first = filed (resize s s′ n a r c)
+
+    now : Whole mid
+    now = made-whole (before .card) bytes tt first
+
+    mid-bytes : Bytes mid
+    mid-bytes = made-bytes (before .card) bytes tt first
+
+    there : Reached mid n
+    there = made-stays (before .card) bytes tt first n (before .first) (λ _. sumOn-nil (δ n))
+
+    x : ResizeEffect img mid n a
+    x = resize-done bytes z c
+
+    y : ResizeEffect mid out n b
+    y = resize-done mid-bytes z′ c′

@@ -15,12 +15,13 @@ use Rattle.card_rules.specs.Whole.{Reached, Whole}
 use Rattle.dir_entries.specs.Names.{isDots}
 use Rattle.dir_answers.specs.Answers.{theInode}
 use Rattle.dir_look.specs.Look.{findAnswer}
-use Rattle.call_said.specs.Said.{saidNo, ofActed}
+use Rattle.call_said.specs.Said.{saidNo, saidValue, ofActed}
 use Rattle.call_said.specs.declared.Said.{Said}
-use Rattle.call_files.specs.FileCalls.{Read, Written}
+use Rattle.call_files.specs.FileCalls.{Read, Written, Resized}
+use Rattle.call_dirs.specs.DirCalls.{Created}
 use Rattle.call_looks.specs.LookCalls.{Found}
 use Rattle.law_calls.specs.SameData.{SameData}
-use Rattle.law_calls.specs.Runs.{Call, Run, lastPut, Unwritten, Unremoved, Unnamed, Unasked}
+use Rattle.law_calls.specs.Runs.{Call, Run, lastPut, lastShown, Unwritten, Unremoved, Unnamed, Unasked}
 use Rattle.law_calls.specs.Paths.{Path, OnWay}
 
 -- ---- the other record
@@ -107,3 +108,17 @@ WrittenIsRead = (img out : List ℕ) (cs : List Call) (m o : ℕ) → Whole img 
 abbrev pub StoredIsRead : Type 0
 StoredIsRead = (img mid out s s′ src : List ℕ) (cs : List Call) (m off o : ℕ) (r : Said) → Bytes img → Bytes src → Written img mid s s′ src m off r
     → saidNo r ≡ 0 → off ≤ o → o < off + length src → Run (Lasts m o) mid out cs → Gives out m o (lastPut cs m o (byte src (o - off)))
+
+-- ---- a record shows only what was written to it
+
+-- From the making of file m on, whatever is called, each byte of it is what the last done write to m put there since its length last rose over that byte, or 0; and a
+-- public read gives it. So no call ever shows a byte of another record, removed ones included.
+abbrev pub ShowsOwn : Type 0
+ShowsOwn = (img mid out s s′ : List ℕ) (p : ℕ) (x : List ℕ) (k : ℕ) (r : Said) (cs : List Call) (o : ℕ) → Bytes img → Bytes x → k ≢ 2
+    → Created img mid s s′ p x k r → saidNo r ≡ 0 → Run (λ a b c. Unremoved (saidValue r) a c) mid out cs → o < size out (saidValue r)
+    → Gives out (saidValue r) o (lastShown cs (saidValue r) o 0)
+
+-- What a volunteer asked for: a note shortened to a bytes and then lengthened to b reads zero from a on, whatever stood there.
+abbrev pub ShortenedIsGone : Type 0
+ShortenedIsGone = (img mid out s s′ t t′ : List ℕ) (n a b : ℕ) (r q : Said) (o : ℕ) → Bytes img → Resized img mid s s′ n a r → saidNo r ≡ 0
+    → Resized mid out t t′ n b q → saidNo q ≡ 0 → a ≤ o → o < b → Gives out n o 0

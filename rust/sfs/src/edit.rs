@@ -31,7 +31,7 @@ impl<I: AsMut<[u8]>, S: AsMut<[u32]>> Card<I, S> {
     }
 
     /// Writes from a byte on, growing the file if it ends before, and answers how many bytes: all. A gap between the
-    /// old end and `offset` comes zeroed if the file takes new blocks, and else as its last block holds it.
+    /// old end and `offset` is zeros.
     ///
     /// # Errors
     /// As [`resize`](Card::resize) to the end of what is written.
@@ -47,8 +47,7 @@ impl<I: AsMut<[u8]>, S: AsMut<[u32]>> Card<I, S> {
         Ok(count as usize)
     }
 
-    /// Gives a file a new length. New bytes come zeroed if the file takes new blocks, and else as its last block holds
-    /// them.
+    /// Gives a file a new length. The bytes by which it grows are zeros.
     ///
     /// # Errors
     /// As [`check`](Card::check); then [`NoInode`](Error::NoInode), [`NotFile`](Error::NotFile) for a directory,

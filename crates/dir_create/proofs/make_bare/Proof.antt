@@ -3,7 +3,7 @@ use Rattle.dir_create.proofs.make_bare.Statement.{statement}
 use Rattle.dir_create.proofs.make_bare.Tie as tie
 use Rattle.dir_create.proofs.make_bare.Reads as reads
 use Rattle.dir_create.proofs.make_bare.Lts as lts
-use Rattle.file_requests.proofs.resizing.resize_to.Reads as resize-to-reads
+use Rattle.file_requests.proofs.resizing.fit.Reads as fit-reads
 use Rattle.card_layout.proofs.inode.DiskINode.new.Reads as new-reads
 use Rattle.card_layout.proofs.inode.DiskINode.set_nlinks.Reads as set-nlinks-reads
 use Rattle.card_layout.proofs.inode.encode.Reads as encode-reads
@@ -21,8 +21,8 @@ encode-requires : tie.Need-encode-requires
 encode-requires c κs = search needs
 
 -- src/creating.rt:153:5
-resize-to-requires : tie.Need-resize-to-requires
-resize-to-requires c κs = search needs
+fit-requires : tie.Need-fit-requires
+fit-requires c κs = search needs
 
 -- src/creating.rt:146:1
 same-length : tie.Need-same-length
@@ -30,7 +30,7 @@ same-length c = search needs
 
 -- src/creating.rt:146:1
 returns : tie.Need-returns
-returns c = rw (c .before .before .resize-to .ensures, c .before .before .before .before .before .before .encode .ensures, c .before .before .before .before .before .before .before .before .set-nlinks .ensures, c .before .before .before .before .before .before .before .before .before .new .ensures)
+returns c = rw (c .before .before .fit .ensures, c .before .before .before .before .before .before .encode .ensures, c .before .before .before .before .before .before .before .before .set-nlinks .ensures, c .before .before .before .before .before .before .before .before .before .new .ensures)
 
 pub make-bare-spec : {M : Type 1} → statement M
 make-bare-spec =
@@ -39,6 +39,6 @@ make-bare-spec =
     new-requires
     set-nlinks-requires
     encode-requires
-    resize-to-requires
+    fit-requires
     same-length
     returns)

@@ -4,11 +4,11 @@ use borrow.Author.Needs.{needs}
 use Rattle.dir_entries.proofs.editing.append_direntry.Statement.{statement}
 use Rattle.dir_entries.proofs.editing.append_direntry.Tie as tie
 
-add-resize-to : tie.Need-add-resize-to
-add-resize-to c = search needs
+add-fit : tie.Need-add-fit
+add-fit c = search needs
 
-resize-to-requires : tie.Need-resize-to-requires
-resize-to-requires c κs = search needs
+fit-requires : tie.Need-fit-requires
+fit-requires c κs = search needs
 
 cast-write-entry : tie.Need-cast-write-entry
 cast-write-entry c = search needs
@@ -21,14 +21,14 @@ same-length c = search needs
 
 returns : tie.Need-returns
 unfolding appended
-returns c = rw (c .before .before .write-entry .ensures, c .before .before .before .before .before .before .resize-to .ensures)
+returns c = rw (c .before .before .write-entry .ensures, c .before .before .before .before .before .before .fit .ensures)
 
 pub append-direntry-spec : {M : Type 1} → statement M
 append-direntry-spec =
     tie.close
     (tie.spec
-    add-resize-to
-    resize-to-requires
+    add-fit
+    fit-requires
     cast-write-entry
     write-entry-requires
     same-length

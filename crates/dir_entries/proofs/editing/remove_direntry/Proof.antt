@@ -16,11 +16,11 @@ read-entry-requires c κs = search needs
 write-entry-requires : tie.Need-write-entry-requires
 write-entry-requires c κs = search needs
 
-sub-resize-to : tie.Need-sub-resize-to
-sub-resize-to c = search needs
+sub-fit : tie.Need-sub-fit
+sub-fit c = search needs
 
-resize-to-requires : tie.Need-resize-to-requires
-resize-to-requires c κs = search needs
+fit-requires : tie.Need-fit-requires
+fit-requires c κs = search needs
 
 same-length : tie.Need-same-length
 same-length c = search needs
@@ -29,7 +29,7 @@ returns : tie.Need-returns
 unfolding removed
 returns c =
     let w = c .before .before .before .before .before .before in
-    rw (c .before .before .resize-to .ensures, w .write-entry .ensures, w .before .before .before .read-entry .ensures)
+    rw (c .before .before .fit .ensures, w .write-entry .ensures, w .before .before .before .read-entry .ensures)
 
 pub remove-direntry-spec : {M : Type 1} → statement M
 remove-direntry-spec =
@@ -39,7 +39,7 @@ remove-direntry-spec =
     sub-read-entry
     read-entry-requires
     write-entry-requires
-    sub-resize-to
-    resize-to-requires
+    sub-fit
+    fit-requires
     same-length
     returns)

@@ -1,22 +1,27 @@
--- `file_requests::resizing::clean_new` meets its contract. The lesser of two sizes is where the new bytes begin. Assumes nothing.
+-- `file_requests::resizing::clean_new` meets its contract. Each way out is a case of `newZero`. Assumes nothing.
+use mathlib.Core.Path.{sym, _∙_}
 use native.Mathlib.Omega.{arith}
+use Rattle.file_requests.proofs.Changes.{new-some, new-none}
 use borrow.Author.Needs.{needs}
 use Rattle.file_requests.proofs.resizing.clean_new.Statement.{statement}
 use Rattle.file_requests.proofs.resizing.clean_new.Tie as tie
 
-least-requires : tie.Need-least-requires
-least-requires c κs = search needs
+returns : tie.Need-returns
+returns c = let a = c .before .before .args in sym (new-none (a .nb) (a .n .0) (a .d) (a .z) (a .image .now) (omega arith))
+
+cast-clean-at : tie.Need-cast-clean-at
+cast-clean-at c = search needs
 
 clean-at-requires : tie.Need-clean-at-requires
-clean-at-requires c κs =
-    let p = c .before .before .before .pre in
-    (search needs, p .1, omega (arith, c .before .least .ensures), search needs)
+clean-at-requires c κs = search needs
 
 same-length : tie.Need-same-length
 same-length c = search needs
 
-returns : tie.Need-returns
-returns c = rw (← c .before .before .before .before .least .ensures) (c .before .before .clean-at .ensures)
+returns-2 : tie.Need-returns-2
+returns-2 c =
+    let a = c .before .before .before .before .before .before .args in
+    c .before .before .clean-at .ensures ∙ sym (new-some (a .nb) (a .n .0) (a .d) (a .z) (a .image .now) (omega arith))
 
 pub clean-new-spec : {M : Type 1} → statement M
-clean-new-spec = tie.close (tie.spec least-requires clean-at-requires same-length returns)
+clean-new-spec = tie.close (tie.spec returns cast-clean-at clean-at-requires same-length returns-2)
