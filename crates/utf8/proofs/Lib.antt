@@ -1,0 +1,5 @@
+pub mod Encoding
+pub mod Tests
+pub mod Table
+pub mod Text
+pub mod Groups
