@@ -17,7 +17,19 @@ use Rattle.file_requests.specs.Requests.{needs}
 use Rattle.dir_entries.specs.Entries.{whereIs}
 use Rattle.dir_entries.specs.Names.{storable}
 use Rattle.dir_answers.specs.declared.Acted.{Acted}
-use Rattle.dir_answers.specs.declared.Acted.the-variants.{Done, Inode, NotDir, IsDir, BadName, EntryExist, EntryNotFound, DirNotEmpty, InvalidParam, TooManyLinks, NoDeviceSpace}
+use Rattle.dir_answers.specs.declared.Acted.the-variants.{
+  Done,
+  Inode,
+  NotDir,
+  IsDir,
+  BadName,
+  EntryExist,
+  EntryNotFound,
+  DirNotEmpty,
+  InvalidParam,
+  TooManyLinks,
+  NoDeviceSpace,
+}
 
 -- RULES' number of an answer
 abbrev pub actedNo : Acted → ℕ

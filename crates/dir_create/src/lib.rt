@@ -13,7 +13,19 @@ ghost use Rattle.file_blocks.specs.Inner.{Sizes};
 ghost use Rattle.file_requests.specs.Resizing.{fitted};
 ghost use Rattle.dir_entries.specs.Inner.{CanAppend};
 ghost use Rattle.dir_answers.specs.Inner.{DirHead};
-ghost use Rattle.dir_create.specs.Create.{knownKind, fileKind, freshInode, createTakes, createRoom, createAnswer, madeFile, bareDir, emptyDir, madeDir, made};
+ghost use Rattle.dir_create.specs.Create.{
+  knownKind,
+  fileKind,
+  freshInode,
+  createTakes,
+  createRoom,
+  createAnswer,
+  madeFile,
+  bareDir,
+  emptyDir,
+  madeDir,
+  made,
+};
 ghost use Rattle.dir_create.specs.Inner.{NoneBelow, MakeReady, Creates};
 use card_layout::BlockId;
 use card_layout::INodeId;

@@ -119,12 +119,16 @@ writesOf (listing p k) = []
 writesOf (describing n) = []
 writesOf checking = []
 
--- the inodes that it removes: what an unlink names, where that is a directory or has no other name
+-- c, where it is a directory or has no other name
+abbrev pub ifLast : List ℕ → ℕ → List ℕ
+ifLast img c = pick (eqb (kind img c) 2) (c ∷ []) (pick (ltb 1 (links img c)) [] (c ∷ []))
+
+-- the inodes that it removes: what an unlink names, by its last name
 abbrev pub removesOf : List ℕ → Asked → List ℕ
 removesOf img (file q) = []
 removesOf img (creating p x k) = []
 removesOf img (linking p x c) = []
-removesOf img (unlinking p x) = pick (eqb (kind img (namedBy img p x)) 2) (namedBy img p x ∷ []) (pick (ltb 1 (links img (namedBy img p x))) [] (namedBy img p x ∷ []))
+removesOf img (unlinking p x) = ifLast img (namedBy img p x)
 removesOf img (moving p old t new) = []
 removesOf img (finding p x) = []
 removesOf img (listing p k) = []

@@ -28,8 +28,8 @@ pub record ReadEffect (img : List ℕ) (n off : ℕ) (buf buf′ : List ℕ) (k 
 abbrev pub Lowest : List ℕ → List ℕ → ℕ → Type 0
 Lowest img out n = (p : Place) → InUse out n p → (InUse img n p → ⊥) → (b : ℕ) → b < blocks img → mapBit out b ≡ 1 → held out n p < b
 
--- what every change of a file leaves: its kind and links, the blocks that it had and has, blocks that were free, the lowest, where it has more, N(new) - N(old) of the
--- unused ones, and all other inodes
+-- what every change of a file leaves: its kind and links, the blocks that it had and has, blocks that were free, the lowest, where it has more, N(new) - N(old)
+-- of the unused ones, and all other inodes
 pub record ChangeEffect (img out : List ℕ) (n : ℕ) : Type 0 where
   pub kind-is : kind out n ≡ kind img n
   pub links-is : links out n ≡ links img n

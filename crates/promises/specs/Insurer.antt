@@ -111,8 +111,8 @@ StoredIsRead = (img mid out s s′ src : List ℕ) (cs : List Call) (m off o : �
 
 -- ---- a record shows only what was written to it
 
--- From the making of file m on, whatever is called, each byte of it is what the last done write to m put there since its length last rose over that byte, or 0; and a
--- public read gives it. So no call ever shows a byte of another record, removed ones included.
+-- From the making of file m on, whatever is called but what removes it, each byte of it is what the last done write to m put there since its length last rose
+-- over that byte, or 0; and a public read gives it. So a read of m never gives a byte of another record, removed ones included.
 abbrev pub ShowsOwn : Type 0
 ShowsOwn = (img mid out s s′ : List ℕ) (p : ℕ) (x : List ℕ) (k : ℕ) (r : Said) (cs : List Call) (o : ℕ) → Bytes img → Bytes x → k ≢ 2
     → Created img mid s s′ p x k r → saidNo r ≡ 0 → Run (λ a b c. Unremoved (saidValue r) a c) mid out cs → o < size out (saidValue r)
