@@ -14,7 +14,6 @@ use Rattle.card_map.specs.Free.{lowest}
 use Rattle.card_rules.specs.Whole.{Reached, Whole}
 use Rattle.card_rules.proofs.Tree.{reached-listed}
 use Rattle.check_walk.specs.declared.Opened.{Opened}
-use Rattle.check_walk.specs.declared.Opened.the-variants.{Open, ScratchShort, WrongFs, Damaged, NoInode}
 use Rattle.check_walk.specs.Opening.{Opening}
 use Rattle.dir_entries.specs.Entries.{whereIs}
 use Rattle.dir_answers.specs.Answers.{actedNo, theInode, namedBy}
@@ -28,7 +27,6 @@ use Rattle.dir_answers.specs.declared.Acted.the-variants.{Done}
 use Rattle.call_said.specs.Said.{saidNo, saidValue, ifOpen, ofOpened, ofActed}
 use Rattle.call_dirs.specs.DirCalls.{Created, Linked, Unlinked, Moved, Formatted}
 use Rattle.call_said.specs.declared.Said.{Said}
-use Rattle.call_said.proofs.Opened.{ready}
 use Rattle.law_calls.specs.Inner.{Frame}
 use Rattle.law_dirs.proofs.FreshCard.{format-fits, format-card, format-whole, fresh-bytes}
 use Rattle.law_dirs.proofs.CreateTests.{CanCreate, create-tests, create-can}
@@ -42,6 +40,7 @@ use Rattle.law_dirs.proofs.UnlinkCard.{UnlinkDone, unlink-done}
 use Rattle.law_dirs.proofs.MoveTests.{move-tests, move-can}
 use Rattle.law_dirs.proofs.MoveJudged.{Judged, judged}
 use Rattle.law_dirs.proofs.MoveCard.{MoveDone, move-done}
+use Rattle.law_calls.proofs.Acts.{acts}
 use Rattle.law_calls.proofs.Frame.{create-frame, link-frame, unlink-frame, move-frame}
 use Rattle.law_calls.proofs.Refusals.{said-acted, format-refused}
 
@@ -57,19 +56,15 @@ pub record Acting (img img′ out : List ℕ) (a b : ℕ) (f : Acted) (r : Said)
 
 acting : {img img′ s s′ : List ℕ} {a b : ℕ} (f : Acted) (out : List ℕ) {r : Said} (o : Opened) → Opening img s s′ a b o
     → r ≡ ifOpen o (ofActed f) (ofOpened o) → img′ ≡ ifOpen o out img → saidNo r ≡ 0 → Acting img img′ out a b f r
-acting f out (Open c) x e i z =
-    let y = ready c x refl in
+acting {img} {img′} f out o x e i z =
+    let a = acts (ofActed f) out img img′ o x e i z in
     record {
-      first = y .first;
-      second = y .second;
-      done = sym (said-acted f) ∙ ap saidNo (sym e) ∙ z;
-      said-is = e;
-      image-is = i;
+      first = a .first;
+      second = a .second;
+      done = sym (said-acted f) ∙ a .done;
+      said-is = a .said-is;
+      image-is = a .left-is;
     }
-acting f out ScratchShort x e i z = absurd (omega (arith, ap saidNo e))
-acting f out WrongFs x e i z = absurd (omega (arith, ap saidNo e))
-acting f out Damaged x e i z = absurd (omega (arith, ap saidNo e))
-acting f out NoInode x e i z = absurd (omega (arith, ap saidNo e))
 
 -- ---- create
 

@@ -6,7 +6,6 @@ use mathlib.Core.List.{List, [], _∷_}
 use Prim.Native.Nat.{ℕ, _+_, _-_, _≤_, _<_, max}
 use native.Mathlib.Omega.{arith}
 use native.Mathlib.Decide.{decLt, ℕ-discrete}
-use mathlib.Core.Bool.{Bool, true, false}
 use lib.Dec.{eqb, ltb}
 use lib.ListN.{length}
 use borrow.Author.Tests.{eq-eqb, ne-eqb, lt-ltb, le-ltb}
@@ -22,6 +21,7 @@ use Rattle.call_said.specs.Said.{saidNo, saidValue}
 use Rattle.call_said.specs.declared.Said.{Said}
 use Rattle.law_files.specs.Requests.{Request, reading, writing, resizing}
 use Rattle.law_files.specs.Effects.{ResizeEffect, WriteEffect}
+use Rattle.law_files.proofs.Writing.{pick-same}
 use Rattle.law_calls.specs.Calls.{Called, read, write, resize}
 use Rattle.law_calls.specs.SameData.{SameData}
 use Rattle.law_calls.specs.Made.{Asked, file, Made, filed, create, link, unlink, move, find, list, describe, check, OfBytesAll, writesOf}
@@ -99,10 +99,6 @@ not-in m n d = omega (arith, sumOn-cons (δ m) n [], sumOn-nil (δ m), δ-other 
 -- v by another name
 shows-as : {img : List ℕ} {m : ℕ} {u v : ℕ → ℕ} → ((o : ℕ) → u o ≡ v o) → Shows img m u → Shows img m v
 shows-as e z = record { below = λ o a. z .below o a ∙ e o; behind = λ o a. sym (e o) ∙ z .behind o a }
-
-pick-same : {A : Type 0} (b : Bool) (x : A) → pick b x x ≡ x
-pick-same true x = refl
-pick-same false x = refl
 
 module _ {img mid : List ℕ} {m : ℕ} (v : ℕ → ℕ) (w : Whole img) (b : Bytes img) (h : Reached img m) (k : kind img m ≢ 2) (z : Shows img m v) where
   -- one that does not write it, or is refused

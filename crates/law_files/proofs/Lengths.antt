@@ -1,5 +1,5 @@
 -- A length change that is not refused, whole: it grows, it shrinks, or its block count stays. Assumes nothing.
-use mathlib.Core.Path.{_≡_}
+use mathlib.Core.Path.{_≡_, ap, _∙_}
 use mathlib.Core.List.{List}
 use Prim.Native.Nat.{ℕ, _+_, _≤_, _<_}
 use native.Mathlib.Omega.{arith}
@@ -46,6 +46,9 @@ module _ (img l : List ℕ) (s : Sound img l) (bytes : Bytes img) (n : ℕ) (h :
       go : Dec (count img n < blocksFor len) → Changed img (fitted (blocks img) n (inodeAt img n k) len img) n len
       go (yes u) = up u
       go (no u) = not-up (omega arith) (decLt (blocksFor len) (count img n))
+
+  pub fitted-count : count (fitted (blocks img) n (inodeAt img n k) len img) n ≡ blocksFor len
+  fitted-count = fitted-changed .balanced .inode .shape .counted ∙ ap blocksFor (fitted-changed .size-is)
 
   abbrev mid : List ℕ
   mid = fitted (blocks img) n (inodeAt img n k) len img

@@ -32,7 +32,7 @@ use Rattle.law_files.proofs.Plan.{Had, in-use-had, turnOf, more, Planni
 use Rattle.law_files.proofs.PlanLaws.{planning}
 use Rattle.law_files.proofs.Placed.{Placed, fit-placed}
 use Rattle.law_files.proofs.Filling.{filled-within}
-use Rattle.law_files.proofs.Lengths.{fitted-changed}
+use Rattle.law_files.proofs.Lengths.{fitted-changed, fitted-count}
 use Rattle.law_files.proofs.Resized.{held-is, in-use-is}
 use Rattle.law_files.proofs.Return.{in-use-more}
 
@@ -96,7 +96,7 @@ module _ (img l : List ℕ) (s : Sound img l) (bytes : Bytes img) (n : ℕ) (h :
   c = fitted-changed img l s bytes n h k e len short room
 
   counted : count (fitted (blocks img) n (inodeAt img n k) len img) n ≡ blocksFor len
-  counted = c .balanced .inode .shape .counted ∙ ap blocksFor (c .size-is)
+  counted = fitted-count img l s bytes n h k e len short room
 
   fitted-lowest : Lowest img (fitted (blocks img) n (inodeAt img n k) len img) n
   fitted-lowest = go (decLt (count img n) (blocksFor len))

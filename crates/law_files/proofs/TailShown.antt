@@ -33,7 +33,7 @@ use Rattle.law_files.proofs.PlanLaws.{planning}
 use Rattle.law_files.proofs.Pointed.{pointed}
 use Rattle.law_files.proofs.Lengthened.{grows}
 use Rattle.law_files.proofs.GrownCard.{grown-changed}
-use Rattle.law_files.proofs.Lengths.{fitted-changed}
+use Rattle.law_files.proofs.Lengths.{fitted-changed, fitted-count}
 use Rattle.law_files.proofs.Filling.{filled-within, filled-stays}
 
 -- ---- the block count grows: growth writes to pointer blocks and the record, and to no data block, new ones included
@@ -86,7 +86,7 @@ module _ (img l : List ℕ) (s : Sound img l) (bytes : Bytes img) (n : ℕ) (h :
   c = fitted-changed img l s bytes n h k e len short room
 
   counted : count (fitted (blocks img) n (inodeAt img n k) len img) n ≡ blocksFor len
-  counted = c .balanced .inode .shape .counted ∙ ap blocksFor (c .size-is)
+  counted = fitted-count img l s bytes n h k e len short room
 
   fitted-shows : (o : ℕ) → o < 4096 * blocksFor len → Stood img (fitted (blocks img) n (inodeAt img n k) len img) n o
   fitted-shows o a = go (decLt (count img n) (blocksFor len))

@@ -119,7 +119,7 @@ module _ {l img : List ℕ} (s : Sound img l) (t : Tree img l) (b : Bytes img) (
 
 -- ---- what `written` says
 
-pick-same : (b : Bool) (v : ℕ) → pick b v v ≡ v
+pub pick-same : {A : Type 0} (b : Bool) (v : A) → pick b v v ≡ v
 pick-same true v = refl
 pick-same false v = refl
 

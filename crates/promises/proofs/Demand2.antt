@@ -3,12 +3,8 @@ use mathlib.Core.List.{List}
 use Prim.Native.Nat.{ℕ}
 use Rattle.card_layout.specs.Super.{blocks}
 use Rattle.check_walk.proofs.Agree.{opened}
-use Rattle.dir_create.specs.Create.{createAnswer, createCard}
-use Rattle.dir_link.specs.Link.{linkAnswer, linkCard}
-use Rattle.dir_unlink.specs.Unlink.{unlinkAnswer, unlinkCard}
-use Rattle.dir_move.specs.Move.{moveAnswer, moveCard}
 use Rattle.call_said.specs.Said.{ofActed}
-use Rattle.law_calls.proofs.Acts.{acts}
+use Rattle.law_calls.proofs.Acts.{created-card, linked-card, unlinked-card, moved-card}
 use Rattle.law_calls.proofs.Made.{made-whole, made-bytes}
 use Rattle.law_calls.proofs.DoneCalls.{formatted-bytes}
 use Rattle.law_calls.proofs.FileEffects.{read-done, write-done, resize-done}
@@ -26,18 +22,10 @@ effects =
       read = λ img s s′ buf buf′ n off r b c z. read-done b z c;
       write = λ img img′ s s′ src n off r b g c z. write-done b z g c;
       resize = λ img img′ s s′ n len r b c z. resize-done b z c;
-      create = λ img img′ s s′ p x k r b g c z.
-          created-effect
-          (acts (ofActed (createAnswer (blocks img) img p x k)) (createCard (blocks img) img p x k) img img′ (c .opened) (c .opening) (c .said) (c .image) z .card)
-          b g c z;
-      link = λ img img′ s s′ p x n r b g c z.
-          linked-effect (acts (ofActed (linkAnswer img p x n)) (linkCard (blocks img) img p x n) img img′ (c .opened) (c .opening) (c .said) (c .image) z .card) b g c z;
-      unlink = λ img img′ s s′ p x r b c z.
-          unlinked-effect (acts (ofActed (unlinkAnswer img p x)) (unlinkCard (blocks img) img p x) img img′ (c .opened) (c .opening) (c .said) (c .image) z .card) b c z;
-      move = λ img img′ s s′ p old t new r b g c z.
-          moved-effect
-          (acts (ofActed (moveAnswer (blocks img) img p old t new)) (moveCard (blocks img) img p old t new) img img′ (c .opened) (c .opening) (c .said) (c .image) z .card)
-          b g c z;
+      create = λ img img′ s s′ p x k r b g c z. created-effect (created-card z c) b g c z;
+      link = λ img img′ s s′ p x n r b g c z. linked-effect (linked-card z c) b g c z;
+      unlink = λ img img′ s s′ p x r b c z. unlinked-effect (unlinked-card z c) b c z;
+      move = λ img img′ s s′ p old t new r b g c z. moved-effect (moved-card z c) b g c z;
       find = λ img s s′ p x r c z. found-effect z c;
       entry = λ img s s′ p k r e c z. listed-effect z c;
       metadata = λ img s s′ n r k v b l c z. described-effect z c;

@@ -16,7 +16,6 @@ use Rattle.call_said.specs.Said.{saidNo, saidValue, ofFiled, ofActed}
 use Rattle.call_said.specs.declared.Said.{Said}
 use Rattle.call_files.specs.FileCalls.{Read, Written}
 use Rattle.file_requests.specs.Requests.{resizeAnswer, resizeCard}
-use Rattle.dir_create.specs.Create.{createAnswer, createCard}
 use Rattle.law_files.specs.Requests.{writing, resizing}
 use Rattle.law_files.specs.Effects.{WriteEffect, ResizeEffect}
 use Rattle.law_dirs.specs.Effects.{CreateEffect}
@@ -30,7 +29,7 @@ use Rattle.law_calls.proofs.Runs.{run-whole, run-bytes, run-stays, run-data, ru
 use Rattle.law_calls.proofs.Finds.{run-finds}
 use Rattle.law_calls.proofs.Paths.{run-path, run-path-data, run-name-data}
 use Rattle.law_calls.proofs.Says.{find-inode}
-use Rattle.law_calls.proofs.Acts.{Acts, acts}
+use Rattle.law_calls.proofs.Acts.{Acts, acts, created-card}
 use Rattle.law_calls.proofs.Shown.{run-shown}
 use Rattle.law_calls.proofs.Effects.{created-effect}
 use Rattle.law_calls.proofs.FileEffects.{read-gives, write-done, write-of, resize-done}
@@ -135,7 +134,7 @@ shows-own img mid out s s′ p x k r cs o b g d c z run l =
     a = create s s′ p x k r c
 
     before : Whole img
-    before = acts (ofActed (createAnswer (blocks img) img p x k)) (createCard (blocks img) img p x k) img mid (c .opened) (c .opening) (c .said) (c .image) z .card
+    before = created-card z c
 
     now : Whole mid
     now = made-whole before b g a
