@@ -1,4 +1,6 @@
 // The block cache of rcore-fs (block_cache.rs), over lent words and bytes: read, write and sync of blocks of a device.
+#![tactic(auto)]
+
 ghost use Rattle.std.specs.Prelude.{◌≡◌};
 ghost use Rattle.cache_order.specs.Order.{started};
 ghost use Rattle.cache.specs.Calls.{ReadCall, WriteCall, SyncCall};

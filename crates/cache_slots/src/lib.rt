@@ -1,5 +1,7 @@
 // The slots of the block cache as a lent list of records: which one holds a block, the order of use, and the calls. One record by value is asked and
 // changed by functions of its own; the others walk the list.
+#![tactic(auto)]
+
 ghost use Rattle.std.specs.Prelude.{◌≡◌, ◌+◌, ◌-◌, ◌<◌, length, get_or, set};
 ghost use Rattle.cache_slots.specs.Slots.{none, holds_of, later_of, front_of, find_of, visited, touched};
 ghost use Rattle.cache_slots.specs.Plain.{status_no, status_by, few, blank_of, put_of, slot_of, load_to, spread_to, words_of, PlainRead, PlainWrite, PlainSync};
@@ -7,14 +9,14 @@ ghost use Rattle.cache.specs.Calls.{ReadCall, WriteCall, SyncCall};
 
 use cache;
 
-#[derive(Drop)]
+#[derive(Clone, Copy)]
 pub enum Status {
     Unused,
     Valid,
     Dirty,
 }
 
-#[derive(Drop)]
+#[derive(Clone, Copy)]
 pub struct Slot {
     pub status: Status,
     pub block: u32,
@@ -116,7 +118,7 @@ pub fn touch(slots: &mut [Slot], block: u32) -> usize
 }
 
 // The slots as plain words: three for each of the first 64, the number of slots, and the answer of a call.
-#[derive(Drop)]
+#[derive(Clone, Copy)]
 pub struct Plain {
     pub words: [u32; 192],
     pub count: usize,

@@ -1,4 +1,6 @@
 // The calls that change directories: the card is opened for the inodes, and then the request is made of it. Format asks nothing of the bytes.
+#![tactic(auto)]
+
 ghost use Rattle.call_dirs.specs.DirCalls.{Created, Linked, Unlinked, Moved, Formatted};
 
 use call_said;

@@ -1,4 +1,6 @@
 // The calls on a file's bytes: the card is opened for the inode, and then the request is made of it.
+#![tactic(auto)]
+
 ghost use Rattle.call_files.specs.FileCalls.{Read, Written, Resized};
 
 use call_said;

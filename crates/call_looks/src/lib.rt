@@ -1,4 +1,6 @@
 // Find, the entry at an index, and what an inode is: the card is opened for the inode, and nothing changes.
+#![tactic(auto)]
+
 ghost use Rattle.std.specs.Prelude.{◌≡◌};
 ghost use Rattle.card_layout.specs.Inode.{kind_no};
 ghost use Rattle.call_looks.specs.LookCalls.{Found, Listed, Described};
@@ -23,7 +25,7 @@ pub fn find(image: &[u8], scratch: &mut [u32], p: INodeId, x: &[u8]) -> Said
 }
 
 // What is said of an entry, and its bytes: zeros where it is refused.
-#[derive(Drop)]
+#[derive(Clone, Copy)]
 pub struct Listing {
     pub said: Said,
     pub entry: [u8; DIRENT_SIZE],
@@ -47,7 +49,7 @@ pub fn entry(image: &[u8], scratch: &mut [u32], p: INodeId, k: u64) -> Listing
 }
 
 // What is said of an inode, and its kind, size, blocks and links: 0 where it is refused.
-#[derive(Drop)]
+#[derive(Clone, Copy)]
 pub struct Description {
     pub said: Said,
     pub kind: u32,

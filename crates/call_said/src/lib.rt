@@ -1,4 +1,6 @@
 // What a call says: RULES' names, and a count or an inode where it has one.
+#![tactic(auto)]
+
 ghost use Rattle.std.specs.Prelude.{◌≡◌};
 ghost use Rattle.call_said.specs.Said.{said_no, said_value, of_opened, of_filed, of_acted};
 
@@ -7,7 +9,7 @@ use check_walk::Opened;
 use dir_answers::Acted;
 use file_requests::Filed;
 
-#[derive(Drop)]
+#[derive(Clone, Copy)]
 pub enum Said {
     Done,
     Count(u32),

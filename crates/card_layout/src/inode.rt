@@ -6,7 +6,7 @@ ghost use Rattle.card_layout.specs.Inode.{with_size, with_links, with_blocks, wi
 
 use crate::{BLKSIZE, BlockId, INodeId, NODEVICE};
 
-#[derive(Drop)]
+#[derive(Clone, Copy)]
 pub enum FileType {
     File,
     Dir,
@@ -14,7 +14,7 @@ pub enum FileType {
 }
 
 // The record's scalars: all of it but the direct slots. The padding is kept as the card has it.
-#[derive(Drop)]
+#[derive(Clone, Copy)]
 pub struct Head {
     pub size: u32,
     pub type_: FileType,
@@ -26,13 +26,13 @@ pub struct Head {
     pub device_inode_id: u64,
 }
 
-#[derive(Drop)]
+#[derive(Clone, Copy)]
 pub enum Decoded {
     Good(Head),
     BadKind,
 }
 
-#[derive(Drop)]
+#[derive(Clone, Copy)]
 pub struct DiskINode {
     pub head: Head,
     pub direct: [BlockId; 12],

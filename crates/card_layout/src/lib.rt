@@ -1,14 +1,16 @@
 // The layout of a card: a port of `structs.rs` of rcore-fs-sfs (see NOTICE), with explicit fields in place of `as_buf`.
+#![tactic(auto)]
+
 pub mod entry;
 pub mod inode;
 pub mod slot;
 pub mod superblock;
 
 // A block's number, and an inode's, which is that of its block: two types, so that no call takes one for the other.
-#[derive(Drop)]
+#[derive(Clone, Copy)]
 pub struct BlockId(pub u32);
 
-#[derive(Drop)]
+#[derive(Clone, Copy)]
 pub struct INodeId(pub u32);
 
 // The magic number of SFS.

@@ -3,7 +3,7 @@ ghost use Rattle.std.specs.Prelude.{◌≡◌, ◌≤◌};
 ghost use Rattle.card_layout.specs.Slots.{slot_of, seconds, owned};
 
 // A slot: one of the record, one of the indirect block, one of a block of the second level, or none.
-#[derive(Drop)]
+#[derive(Clone, Copy)]
 pub enum Slot {
     Direct(usize),
     Indirect(usize),

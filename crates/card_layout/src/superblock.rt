@@ -4,7 +4,7 @@ ghost use Rattle.words.specs.Runs.{copied};
 ghost use Rattle.card_layout.specs.Super.{super_put, unused, put_unused};
 ghost use Rattle.card_layout.specs.Inner.{super_at};
 
-#[derive(Drop)]
+#[derive(Clone, Copy)]
 pub struct SuperBlock {
     pub magic: u32,
     pub blocks: u32,

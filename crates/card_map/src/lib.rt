@@ -1,4 +1,6 @@
 // The map of free blocks: `BitsetAlloc`, `alloc_block` and `free_block` of rcore-fs-sfs, on the card's own bytes.
+#![tactic(auto)]
+
 ghost use Rattle.std.specs.Prelude.{◌≡◌, ◌+◌, ◌-◌, ◌*◌, ◌/◌, ◌<◌, ◌≤◌, length};
 ghost use Rattle.card_layout.specs.Sizes.{most};
 ghost use Rattle.card_map.specs.Bits.{map_byte, map_bit, clear_bit, set_bit};
@@ -7,7 +9,7 @@ ghost use Rattle.card_map.specs.Inner.{found_below};
 
 use card_layout::{BlockId, superblock};
 
-#[derive(Drop)]
+#[derive(Clone, Copy)]
 pub enum FreeBlock {
     At(BlockId),
     Nothing,

@@ -1,4 +1,6 @@
 // The line that tells a check's answer, in a lent buffer.
+#![tactic(auto)]
+
 ghost use Rattle.std.specs.Prelude.{◌≡◌, ◌+◌, ◌≤◌, length, take};
 ghost use Rattle.check_line.specs.Line.{decimal, check_line, put_at, line_room, line_length, lined};
 

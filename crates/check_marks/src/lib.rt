@@ -1,5 +1,7 @@
 // Marking the blocks that an inode uses, each at most once: what it names is followed only after it was marked, so that a
 // damaged card costs no more than a whole one.
+#![tactic(auto)]
+
 ghost use Rattle.std.specs.Prelude.{◌≡◌, ◌+◌, ◌-◌, ◌*◌, ◌≤◌, ◌<◌, ltb, length};
 ghost use Rattle.words.specs.Words.{pick};
 ghost use Rattle.words.specs.Inner.{When, Tells};

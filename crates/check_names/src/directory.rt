@@ -19,7 +19,7 @@ use words::order;
 const ENTRY: u32 = DIRENT_SIZE as u32;
 
 // A name's length, 256 where it has no NUL, and its hash.
-#[derive(Drop)]
+#[derive(Clone, Copy)]
 pub struct Scanned {
     pub len: usize,
     pub hash: u32,

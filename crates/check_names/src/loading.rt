@@ -51,7 +51,7 @@ pub fn entry_number(image: &[u8], n: INodeId, k: usize) -> INodeId
 }
 
 // Where a reader of entries stands: a file block, its number, and the number in the entry that was read last.
-#[derive(Drop)]
+#[derive(Clone, Copy)]
 pub struct Near {
     pub index: usize,
     pub block: BlockId,

@@ -17,14 +17,14 @@ use card_layout::{BlockId, INodeId, inode};
 use check_names::loading;
 
 // How many children of a directory are directories, or that one of those has another parent.
-#[derive(Drop)]
+#[derive(Clone, Copy)]
 pub enum Kin {
     Subs(usize),
     Stray,
 }
 
 // Whether a card is whole, and has the inodes that were asked for.
-#[derive(Drop)]
+#[derive(Clone, Copy)]
 pub enum Verdict {
     Yes,
     No,

@@ -1,4 +1,6 @@
 // The check of a whole card, and the opening of a card for a call: RULES' tests in RULES' order.
+#![tactic(auto)]
+
 ghost use Rattle.std.specs.Prelude.{◌≡◌, ◌+◌, ◌*◌, ◌≤◌, ◌<◌, length};
 ghost use Rattle.words.specs.Inner.{Tells};
 ghost use Rattle.words.specs.Runs.{zeroed};
@@ -19,14 +21,14 @@ pub mod queue;
 pub mod visit;
 
 // A card's block count and unused count.
-#[derive(Drop)]
+#[derive(Clone, Copy)]
 pub struct Counts {
     pub blocks: u32,
     pub unused: u32,
 }
 
 // The answer to opening a card: its counts, or one of RULES' refusals 1 to 4.
-#[derive(Drop)]
+#[derive(Clone, Copy)]
 pub enum Opened {
     Open(Counts),
     ScratchShort,

@@ -10,7 +10,7 @@ use check_names::loading;
 const MANY: u32 = MAX_NLINKS as u32;
 
 // Where the queue ends after a step, or that the card is not whole.
-#[derive(Drop)]
+#[derive(Clone, Copy)]
 pub enum End {
     At(usize),
     Bad,

@@ -1,4 +1,6 @@
 // Create: RULES' tests, in its order, and then the act.
+#![tactic(auto)]
+
 ghost use Rattle.std.specs.Prelude.{◌≡◌, ◌<◌, false, eqb};
 ghost use Rattle.card_layout.specs.Sizes.{full_links};
 ghost use Rattle.words.specs.Words.{pick};

@@ -1,4 +1,6 @@
 // Format: a card of the blocks that `space` bytes make, with nothing in it but the root.
+#![tactic(auto)]
+
 ghost use Rattle.std.specs.Prelude.{◌≡◌, ◌+◌, ◌-◌, ◌*◌, ◌/◌, ◌≤◌, length};
 ghost use Rattle.card_layout.specs.Sizes.{most, maps_for};
 ghost use Rattle.card_layout.specs.Super.{super_put};

@@ -1,4 +1,6 @@
 // Link: RULES' tests, in its order, and then the act.
+#![tactic(auto)]
+
 ghost use Rattle.std.specs.Prelude.{◌≡◌, ◌≤◌, ◌<◌, length};
 ghost use Rattle.card_layout.specs.Sizes.{full_links};
 ghost use Rattle.card_layout.specs.Super.{blocks};

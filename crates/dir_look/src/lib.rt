@@ -1,4 +1,6 @@
 // Find and the entry at an index: RULES' tests, in its order. Nothing changes.
+#![tactic(auto)]
+
 ghost use Rattle.std.specs.Prelude.{◌≡◌};
 ghost use Rattle.card_rules.specs.Whole.{Reached, Whole};
 ghost use Rattle.dir_answers.specs.Inner.{DirHead};

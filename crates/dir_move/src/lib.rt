@@ -1,4 +1,6 @@
 // Move: a name becomes another, in the same directory or in another one.
+#![tactic(auto)]
+
 ghost use Rattle.std.specs.Prelude.{◌≡◌, true, false, ◌≤◌, ◌<◌, length};
 ghost use Rattle.card_layout.specs.Sizes.{full_links};
 ghost use Rattle.card_layout.specs.Super.{blocks};

@@ -1,4 +1,6 @@
 // Unlink: a name goes, and with an inode's last name the inode and all that it owns.
+#![tactic(auto)]
+
 ghost use Rattle.std.specs.Prelude.{◌≡◌, ◌+◌, ◌-◌, ◌*◌, ◌≤◌, ◌<◌, length};
 ghost use Rattle.card_layout.specs.Sizes.{block_size, entry_size};
 ghost use Rattle.card_layout.specs.Super.{blocks};

@@ -1,4 +1,6 @@
 // Writing a file's bytes from a buffer, or zeros: three loops over block ranges, each pointer block looked up once.
+#![tactic(auto)]
+
 ghost use Rattle.std.specs.Prelude.{◌≡◌, ◌+◌, ◌-◌, ◌*◌, ◌≤◌, ◌<◌, false, length};
 ghost use Rattle.file_blocks.specs.Inner.{RangeAsks, PieceAsks, RunAsks, PartAsks};
 ghost use Rattle.file_blocks.specs.Bytes.{put, piece_fill, run_fill, direct_fill, indirect_fill, level_fill, double_fill, filled};

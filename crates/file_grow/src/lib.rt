@@ -1,4 +1,6 @@
 // Growth: the blocks of a longer file are taken in RULES' order, each the lowest free one.
+#![tactic(auto)]
+
 ghost use Rattle.std.specs.Prelude.{◌≡◌, ◌+◌, ◌-◌, ◌*◌, ◌≤◌, ◌<◌, length};
 ghost use Rattle.card_layout.specs.Sizes.{most};
 ghost use Rattle.card_map.specs.Free.{taken};
@@ -13,7 +15,7 @@ use file_blocks::pieces;
 use words::order;
 
 // A record in the making, and the block from which the next search goes on.
-#[derive(Drop)]
+#[derive(Clone, Copy)]
 pub struct Took {
     pub inode: DiskINode,
     pub from: BlockId,

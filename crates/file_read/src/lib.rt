@@ -1,4 +1,6 @@
 // Reading a file's bytes into a buffer: three loops over block ranges, each pointer block looked up once.
+#![tactic(auto)]
+
 ghost use Rattle.std.specs.Prelude.{◌≡◌, ◌+◌, ◌-◌, ◌*◌, ◌≤◌, ◌<◌, length};
 ghost use Rattle.file_blocks.specs.Inner.{RangeAsks, PieceAsks, RunAsks, PartAsks};
 ghost use Rattle.file_blocks.specs.Bytes.{piece_read, run_read, direct_read, indirect_read, level_read, double_read, read_into};

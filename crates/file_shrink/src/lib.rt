@@ -1,4 +1,6 @@
 // Shrinking: the blocks that a shorter file no longer has are freed. Nothing is zeroed.
+#![tactic(auto)]
+
 ghost use Rattle.std.specs.Prelude.{◌≡◌, ◌+◌, ◌-◌, ◌*◌, ◌≤◌, ◌<◌, length};
 ghost use Rattle.file_blocks.specs.Taking.{freed_in, free_run, free_direct, free_single, free_part, free_twofold};
 ghost use Rattle.file_blocks.specs.Taking.{free_indirect, free_level, free_double, shrunk, less_indirect, less_double};

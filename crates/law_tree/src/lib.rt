@@ -1,1 +1,2 @@
 // What one entry more, less or elsewhere does to the tree of directories. There is no code here.
+#![tactic(auto)]

@@ -1,1 +1,2 @@
 // What is promised, and that it holds. There is no code here.
+#![tactic(auto)]

@@ -2,7 +2,7 @@
 use words::{get32, get64};
 
 // What a call gives: RULES' number, its values, and the sum of the bytes that it hands back, 0 where there are none.
-#[derive(Drop)]
+#[derive(Clone, Copy)]
 pub struct Got {
     pub number: u32,
     pub a: u32,
@@ -12,7 +12,7 @@ pub struct Got {
     pub bytes: u32,
 }
 
-#[derive(Drop)]
+#[derive(Clone, Copy)]
 pub struct Frame {
     // Which step it is.
     pub op: u32,

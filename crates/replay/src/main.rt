@@ -1,5 +1,7 @@
 // Runs a recording of calls and of what the unchanged Rust answered to them (tests/replay) through the library, and prints how many
 // cards and calls it has, and how many calls agree: in the number, in every value, and in the sums of the card and of what is read.
+#![tactic(auto)]
+
 ghost use Rattle.std.specs.Prelude.{◌≡◌, length};
 
 use crate::frame::Frame;
@@ -14,7 +16,7 @@ const CARD: u32 = 1;
 
 const BYTES: u32 = 2;
 
-#[derive(Drop)]
+#[derive(Clone, Copy)]
 struct Tally {
     // The recording goes on.
     goes: bool,

@@ -1,4 +1,6 @@
 // The C interface of the library (include/sfs.h): each function covers a proved call and has its statement.
+#![tactic(auto)]
+
 ghost use Rattle.std.specs.Prelude.{◌≡◌};
 ghost use Rattle.check_walk.specs.Opening.{status_of, blocks_of, unused_of};
 ghost use Rattle.sfs.specs.Check.{Checked};

@@ -1,4 +1,6 @@
 // Reads a card of at most 65,536 bytes from standard input, and prints the line of its check.
+#![tactic(auto)]
+
 fn main() {
     let mut image = io::large_buffer();
     let n = io::read_full(0, &mut image);

@@ -1,4 +1,6 @@
 // Whether bytes are UTF-8 (RFC 3629).
+#![tactic(auto)]
+
 ghost use Rattle.std.specs.Prelude.{◌≡◌, ◌+◌, ◌≤◌, ◌<◌, length};
 ghost use Rattle.words.specs.Words.{byte};
 ghost use Rattle.words.specs.Inner.{Tells};

@@ -1,4 +1,6 @@
 // Little-endian numbers at a place of a lent byte slice, and runs of bytes.
+#![tactic(auto)]
+
 pub mod order;
 
 ghost use Rattle.std.specs.Prelude.{◌≡◌, ◌+◌, ◌*◌, ◌≤◌, ◌<◌, length};
