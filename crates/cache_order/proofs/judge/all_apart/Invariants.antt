@@ -1,0 +1,16 @@
+use Prim.Native.Nat.{ℕ, ◌≤◌, ◌<◌, ◌-◌}
+use mathlib.Core.Path.{◌≡◌, refl, ◌∙◌}
+use borrow.Author.Rules.{rules}
+use borrow.Author.Count.{below_more}
+use native.Mathlib.Omega.{arith}
+use lib.ListN.{length, length-set}
+use Rattle.words.proofs.Answers.{when-not-true, when_not_false}
+use Rattle.cache_order.specs.Slots.{Alone, Marked}
+use Rattle.cache_order.proofs.Laws.{marked_none, marked_more}
+use Rattle.cache_order.proofs.judge.all_apart.Given as goal
+
+abbrev pub invariant-loop-j : goal.invariant-loop-j
+invariant-loop-j l = (l.j ≤ l.n) × (length l.places ≡ 256) × (length l.blocks ≡ 1024) × Marked l.places l.blocks l.slots l.j × ((k : ℕ) → k < l.j → Alone l.slots k)
+
+abbrev pub decreases-loop-j : goal.decreases-loop-j
+decreases-loop-j l = l.n - l.j

@@ -1,0 +1,16 @@
+use Prim.Native.Nat.{ℕ, ◌+◌, ◌*◌, ◌≤◌, ◌<◌, ◌-◌}
+use mathlib.Core.Path.{◌≡◌, refl, sym, ap, ◌∙◌}
+use borrow.Author.Rules.{rules}
+use native.Mathlib.Omega.{arith}
+use lib.ListN.{length, set, length-set}
+use Rattle.words.specs.Runs.{puts}
+use Rattle.words.proofs.Runs.{puts_none, puts_more, byte-puts_off}
+use Rattle.cache_order.specs.Slots.{slots_in, place_at}
+use Rattle.cache_order.specs.Order.{pushed, place_after}
+use Rattle.cache_order.proofs.order.push.Given as goal
+
+abbrev pub invariant-loop-j : goal.invariant-loop-j
+invariant-loop-j l = (l.j ≤ l.n) × (length l.slots ≡ length l.initial.slots) × (l.slots ≡ puts l.initial.slots (λ k. 3 * k + 2) (λ k. place_after l.old (place_at l.initial.slots k)) l.j)
+
+abbrev pub decreases-loop-j : goal.decreases-loop-j
+decreases-loop-j l = l.n - l.j

@@ -1,0 +1,7 @@
+use Rattle.card_layout.specs.Inode.{put_back}
+use borrow.Author.Rules.{rules}
+use Rattle.card_layout.proofs.inode.put_back.Goals as goal
+
+pub returns : goal.returns
+unfolding put_back
+returns c = cc

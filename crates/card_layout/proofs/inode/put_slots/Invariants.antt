@@ -1,0 +1,14 @@
+use borrow.Author.Rules.{rules}
+use lib.ListN.{length, drop, drop_of_length-le}
+use Rattle.card_layout.proofs.Words.{put_words_step}
+use Rattle.card_layout.specs.Inode.{put_words}
+use native.Mathlib.Omega.{arith}
+use mathlib.Core.Path.{◌≡◌, refl, sym, ap, ◌∙◌}
+use Prim.Native.Nat.{ℕ, ◌≤◌, ◌-◌, ◌+◌, ◌*◌}
+use Rattle.card_layout.proofs.inode.put_slots.Given as goal
+
+abbrev pub invariant-loop-i : goal.invariant-loop-i
+invariant-loop-i l = (l.i ≤ 12) × (length l.image ≡ length l.initial.image) × (l.p ≡ l.at + 4 * l.i) × (put_words l.image l.p (drop l.i l.d) ≡ put_words l.initial.image l.at l.d)
+
+abbrev pub decreases-loop-i : goal.decreases-loop-i
+decreases-loop-i l = 12 - l.i

@@ -1,0 +1,11 @@
+use borrow.Author.Rules.{rules}
+use native.Mathlib.Omega.{arith}
+use mathlib.Core.Path.{◌≡◌, refl}
+use Prim.Native.Nat.{ℕ, ◌≤◌, ◌<◌, ◌-◌, ◌+◌}
+use lib.ListN.{length, get_or}
+use Rattle.words.proofs.Lists.{filled, filled_part}
+use Rattle.card_layout.proofs.superblock.info_of.Goals as goal
+
+pub returns : goal.returns
+returns c = let l = c.loop-i in
+    filled_part c.args.image.now l.info 12 32 (omega arith) l.invariant.1 (λ k h. l.invariant.2 k (omega arith))

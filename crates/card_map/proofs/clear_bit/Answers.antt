@@ -1,0 +1,8 @@
+use Rattle.std.proofs.Common.{◌+◌, ◌/◌, ◌%◌, get_or, arith, rules}
+use Rattle.card_map.specs.Bits.{map_bit, clear_bit}
+use Rattle.card_map.proofs.Bits.{shl_one, off_within}
+use Rattle.card_map.proofs.clear_bit.Goals as goal
+
+pub returns : goal.returns
+unfolding clear_bit map_bit
+returns c = rw (shl_one (c.args.b.0 % 8) (omega arith))

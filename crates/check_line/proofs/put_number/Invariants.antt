@@ -1,0 +1,15 @@
+use mathlib.Core.Path.{◌≡◌, refl, sym, ap, ◌∙◌}
+use Prim.Native.Nat.{◌+◌, ◌/◌, ◌%◌, ◌≤◌, ◌<◌}
+use native.Mathlib.Omega.{arith}
+use lib.ListN.{length, length-set}
+use Rattle.check_line.specs.Line.{digit, decimal, put_at}
+use Rattle.check_line.proofs.Decimal.{decimal_small, decimal_large, length_small, length_large, length_some}
+use Rattle.check_line.proofs.Puts.{put_one, put_last}
+use borrow.Author.Rules.{rules}
+use Rattle.check_line.proofs.put_number.Given as goal
+
+abbrev pub invariant-loop-rest : goal.invariant-loop-rest
+invariant-loop-rest l = (l.i + 1 ≡ l.at + length (decimal l.rest)) × (l.i < l.end) × (length l.out ≡ length l.initial.out) × (put_at l.out l.at (decimal l.rest) ≡ put_at l.initial.out l.at (decimal l.n))
+
+abbrev pub decreases-loop-rest : goal.decreases-loop-rest
+decreases-loop-rest l = l.rest

@@ -1,0 +1,14 @@
+use native.Mathlib.Omega.{arith}
+use mathlib.Core.Path.{◌≡◌, refl}
+use mathlib.Core.Bool.{not, false}
+use Prim.Native.Nat.{◌≤◌, ◌-◌, ◌+◌}
+use lib.ListN.{length}
+use Rattle.words.proofs.Answers.{when-not-true, when_not_false}
+use Rattle.check_names.proofs.Chaining.{Before, before_none, before_more, before_all}
+use Rattle.check_names.proofs.directory.names_ok.Given as goal
+
+abbrev pub invariant-loop-lo : goal.invariant-loop-lo
+invariant-loop-lo l = (length l.w ≡ length l.initial.w) × (l.lo ≤ l.e) × Before l.image l.n.0 l.lo l.e
+
+abbrev pub decreases-loop-lo : goal.decreases-loop-lo
+decreases-loop-lo l = l.e - l.lo

@@ -1,0 +1,12 @@
+use mathlib.Core.Path.{◌≡◌, ◌∙◌, sym}
+use Prim.Native.Nat.{ℕ, ◌-◌, ◌≤◌, ◌<◌}
+use native.Mathlib.Omega.{arith}
+use borrow.Author.Count.{below_more}
+use Rattle.card_map.specs.Bits.{map_bit}
+use Rattle.check_walk.proofs.judge.bits_clear.Given as goal
+
+abbrev pub invariant-loop-b : goal.invariant-loop-b
+invariant-loop-b l = (l.nb ≤ l.b) × ((i : ℕ) → i < l.b → l.nb ≤ i → map_bit l.image i ≡ 0)
+
+abbrev pub decreases-loop-b : goal.decreases-loop-b
+decreases-loop-b l = l.e - l.b

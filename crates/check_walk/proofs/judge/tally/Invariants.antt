@@ -1,0 +1,13 @@
+use Prim.Native.Nat.{ℕ, ◌-◌, ◌≤◌, ◌<◌}
+use native.Mathlib.Omega.{arith}
+use borrow.Author.Count.{below_more}
+use lib.ListN.{get_or}
+use Rattle.words.proofs.Answers.{when-not-true, when_not_false}
+use Rattle.check_walk.specs.Inner.{seen_at, Tally}
+use Rattle.check_walk.proofs.judge.tally.Given as goal
+
+abbrev pub invariant-loop-i : goal.invariant-loop-i
+invariant-loop-i l = (l.i ≤ l.t) × ((k : ℕ) → k < l.i → Tally l.image (get_or l.s k 0) (seen_at l.s l.nb (get_or l.s k 0)))
+
+abbrev pub decreases-loop-i : goal.decreases-loop-i
+decreases-loop-i l = l.t - l.i

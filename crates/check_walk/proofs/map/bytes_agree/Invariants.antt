@@ -1,0 +1,24 @@
+use mathlib.Core.Path.{◌≡◌, sym, ap, ◌∙◌}
+use mathlib.Core.List.{List}
+use Prim.Native.Nat.{ℕ, ◌+◌, ◌-◌, ◌*◌, ◌≤◌, ◌<◌}
+use native.Mathlib.Omega.{arith}
+use native.Mathlib.Decide.{dec_lt}
+use lib.ListN.{get_or}
+use Rattle.words.specs.Words.{byte}
+use Rattle.words.specs.Inner.{When}
+use Rattle.words.proofs.Answers.{when-not-true, when_not_false}
+use Rattle.card_map.specs.Bits.{map_bit}
+use Rattle.card_map.proofs.Bits.{bit_of}
+use Rattle.card_map.proofs.Map.{bit_at}
+use Rattle.check_walk.specs.Inner.{own_at}
+use Rattle.check_walk.proofs.map.bytes_agree.Given as goal
+
+-- each block below n is in use once or free
+abbrev Each : List ℕ → List ℕ → ℕ → ℕ → Type 0
+Each img s nb n = (b : ℕ) → b < n → own_at s nb b + map_bit img b ≡ 1
+
+abbrev pub invariant-loop-i : goal.invariant-loop-i
+invariant-loop-i l = (l.i ≤ l.n) × Each l.image l.s l.nb (8 * l.i)
+
+abbrev pub decreases-loop-i : goal.decreases-loop-i
+decreases-loop-i l = l.n - l.i

@@ -1,0 +1,14 @@
+use native.Mathlib.Omega.{arith}
+use mathlib.Core.Path.{◌≡◌, refl, sym, ◌∙◌}
+use Prim.Native.Nat.{◌≤◌, ◌-◌}
+use lib.ListN.{length, drop}
+use Rattle.check_names.proofs.Scanning.{left}
+use Rattle.dir_entries.specs.Entries.{eqs}
+use Rattle.dir_entries.proofs.Comparing.{place_nul, place_other, place_same, place_end}
+use Rattle.dir_entries.proofs.finding.begins.Given as goal
+
+abbrev pub invariant-loop-i : goal.invariant-loop-i
+invariant-loop-i l = (l.i ≤ length l.x) × (eqs (left l.e 0) l.x ≡ eqs (left l.e l.i) (drop l.i l.x))
+
+abbrev pub decreases-loop-i : goal.decreases-loop-i
+decreases-loop-i l = length l.x - l.i

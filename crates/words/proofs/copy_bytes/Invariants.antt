@@ -1,0 +1,17 @@
+use Rattle.words.proofs.Runs.{puts_none, puts_more}
+use mathlib.Core.Path.{refl, ap, ◌∙◌}
+use Prim.Native.Nat.{ℕ, ◌+◌, zero-le}
+use lib.ListN.{length-set}
+use borrow.Author.Rules.{rules}
+use mathlib.Core.Path.{◌≡◌}
+use native.Mathlib.Omega.{arith}
+use Prim.Native.Nat.{◌≤◌, ◌-◌}
+use lib.ListN.{length}
+use Rattle.words.specs.Runs.{copied}
+use Rattle.words.proofs.copy_bytes.Given as goal
+
+abbrev pub invariant-loop-j : goal.invariant-loop-j
+invariant-loop-j l = (l.j ≤ l.n) × (l.dst ≡ copied l.initial.dst l.at l.src l.from l.j) × (length l.dst ≡ length l.initial.dst)
+
+abbrev pub decreases-loop-j : goal.decreases-loop-j
+decreases-loop-j l = l.n - l.j
