@@ -12,4 +12,4 @@ returns c =
     let v = c.wrapping_add_u32 in
     c.set_unused_blocks.ensures
     ∙ ap (λ (l : List ℕ). put_unused l v.result) c.set_bit.ensures
-    ∙ ap (put_unused (set_bit img a.b.0)) (v.ensures ∙ ap (λ (u : ℕ). (u + 1) % 2 ^ 32) c.unused_blocks-v.ensures)
+    ∙ ap (put_unused (set_bit img a.b.0)) (v.ensures.value ∙ ap (λ (u : ℕ). (u + 1) % 2 ^ 32) c.unused_blocks-v.ensures)
