@@ -17,7 +17,9 @@ returns-then-b-lt12 c =
     grew_by _ _ _ (sym (grow_indirect_short a.nb a.a a.b (growing_at a.image.now a.t) (omega arith)))
 
 pub overflow_add-result : goal.overflow_add-result
-overflow_add-result c = ?
+overflow_add-result c =
+    let a = c.args in
+    omega (arith, next_free_below a.nb a.image.now a.t.from.0 (omega arith))
 
 pub returns : goal.returns
 returns c =
