@@ -1,0 +1,32 @@
+use Prim.Native.Nat.{ℕ, ◌+◌, ◌*◌, ◌<◌}
+use mathlib.Core.Path.{ap, sym}
+use native.Mathlib.Omega.{arith}
+use Rattle.card_layout.specs.Slots.{seconds}
+use Rattle.card_rules.proofs.Views.{seconds_some}
+use Rattle.check_marks.specs.Inner.{run_use, level_use}
+use Rattle.words.proofs.Answers.{when_not_false}
+use Rattle.check_marks.proofs.Marking.{marks_none, clash_le, did_after, run_in, ran, not_ran}
+use Rattle.check_marks.proofs.Uses.{double_none}
+use borrow.Author.Rules.{rules}
+use Rattle.check_marks.proofs.mark_double.Goals as goal
+
+pub returns-then-c-lt1036 : goal.returns-then-c-lt1036
+returns-then-c-lt1036 c =
+    let a = c.args in
+    let l : a.c < 1036 = omega arith in
+    marks_none _ _ (λ b. double_none a.image.now a.d.0 a.c b l)
+
+pub mark_run-requires : goal.mark_run-requires
+mark_run-requires c =
+    let a = c.args in
+    omega (arith, c.seconds_of-k.ensures, seconds_some a.c (omega arith), c.requires.2 (omega arith))
+
+pub mark_level-requires : goal.mark_level-requires
+mark_level-requires c =
+    let a = c.args in
+    let m = when_not_false c.mark_run.result _ _ c.if-not-mark_run.false-raw c.mark_run.ensures in (
+      record { few = omega (arith, m.long); card = omega (arith, m.long) },
+      omega (arith, c.seconds_of-k.ensures, seconds_some a.c (omega arith)),
+      λ l. omega (arith, m.long, c.requires.2 (omega arith)),
+      λ j l. omega (arith, m.long, run_in a.image.now (4096 * a.d.0) c.seconds_of-k.result m j l),
+    )

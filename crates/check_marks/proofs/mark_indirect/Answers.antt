@@ -1,0 +1,12 @@
+use Prim.Native.Nat.{◌*◌, ◌-◌, min}
+use mathlib.Core.Path.{◌≡◌}
+use native.Mathlib.Omega.{arith}
+use Rattle.check_marks.proofs.Marking.{marks_none, run_none, did_run}
+use borrow.Author.Rules.{rules}
+use Rattle.check_marks.proofs.mark_indirect.Goals as goal
+
+pub returns-then-c-lt12 : goal.returns-then-c-lt12
+returns-then-c-lt12 c =
+    let a = c.args in
+    let e : min a.c 1036 - 12 ≡ 0 = omega arith in
+    marks_none _ _ (λ b. run_none a.image.now (4096 * a.p.0) (min a.c 1036 - 12) b e)

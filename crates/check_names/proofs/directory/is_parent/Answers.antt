@@ -1,0 +1,26 @@
+use native.Mathlib.Omega.{arith}
+use mathlib.Core.List.{[], ◌∷◌}
+use Rattle.card_layout.proofs.Names.{nul_here}
+use Rattle.words.proofs.Answers.{when-eqb}
+use Rattle.check_names.proofs.Scanning.{left_nil, left_cons, to_cons}
+use borrow.Author.Rules.{rules}
+use Rattle.check_names.proofs.directory.is_parent.Goals as goal
+
+pub returns-then-b-ne46 : goal.returns-then-b-ne46
+returns-then-b-ne46 c =
+    let e = c.args.e.now in
+    λ h. c.if-b-ne46.true (left_cons e 4 (omega arith) 46 (46 ∷ []) h).0
+
+pub returns-then-b-ne46-2 : goal.returns-then-b-ne46-2
+returns-then-b-ne46-2 c =
+    let e = c.args.e.now in
+    λ h. c.if-b-ne46-2.true (left_cons e 5 (omega arith) 46 [] (left_cons e 4 (omega arith) 46 (46 ∷ []) h).1).0
+
+pub returns : goal.returns
+returns c =
+    let e = c.args.e.now in
+    when-eqb _ 0 _ _
+    (λ z.
+    to_cons e 4 (omega arith) 46 (46 ∷ []) (λ q. omega arith) c.if-b-ne46.false
+    (to_cons e 5 (omega arith) 46 [] (λ q. omega arith) c.if-b-ne46-2.false (nul_here e 6 (omega arith) z)))
+    (λ d h. d (left_nil e 6 (omega arith) (left_cons e 5 (omega arith) 46 [] (left_cons e 4 (omega arith) 46 (46 ∷ []) h).1).1))
