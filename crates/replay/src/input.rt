@@ -10,7 +10,7 @@ pub fn read_full(from: &mut impl Read, into: &mut [u8]) -> io::Result<usize>
 {
     let mut done = 0;
     for _ in 0..u64::MAX {
-        if done == into.len() {
+        if done >= into.len() {
             break;
         }
         let n = from.read(&mut into[done..])?;
