@@ -1,8 +1,5 @@
 -- The tests before a call, case by case, and the head of a file. Assumes nothing.
 use mathlib.Core.Path.{◌≡◌, refl, sym, ap, ◌∙◌}
-use mathlib.Core.List.{[], ◌∷◌}
-use types.Run.{OneOf, miss}
-use denote.Enum.Declared.{tag_of}
 use Prim.Native.Nat.{ℕ, ◌+◌, ◌-◌, ◌*◌, ◌/◌, ◌≤◌, ◌<◌}
 use native.Mathlib.Omega.{arith}
 use native.Mathlib.Decide.{dec_lt}
@@ -18,7 +15,6 @@ use Rattle.card_layout.specs.declared.inode.Decoded.{Decoded}
 use Rattle.card_layout.specs.declared.inode.Decoded.TheVariants.{Good, BadKind}
 use Rattle.file_blocks.proofs.Picks.{pick-both, pick_yes, pick_no}
 use Rattle.file_requests.specs.Requests.{longest, by_kind, by_file, needs, judged, on_done, write_judged}
-use Rattle.file_requests.specs.contracts.Filed.{the_type as filed-type}
 use Rattle.file_requests.specs.declared.Filed.{Filed}
 use Rattle.file_requests.specs.declared.Filed.TheVariants.{Done, Count, NotFile, InvalidParam, NoDeviceSpace}
 
@@ -96,9 +92,9 @@ module _ (u : ℕ) (h : Head) (len : ℕ) where
   unfolding write_judged
   write-countless = pick-both Countless (ltb h.size len) (judged u h len) Done judged-countless refl
 
--- so one that is not done is a refusal: its tag is one of the others
-pub on-refused : {A : Type 0} (j : Filed) (x r : A) → Countless j → OneOf (1 ∷ 2 ∷ 3 ∷ 4 ∷ []) (tag_of filed-type j) → on_done j x r ≡ r
-on-refused Done x r p t = absurd (miss (1 ∷ 2 ∷ 3 ∷ 4 ∷ []) 0 tt t)
+-- so one that is not done is a refusal
+pub on-refused : {A : Type 0} (j : Filed) (x r : A) → Countless j → (j ≡ Done → ⊥) → on_done j x r ≡ r
+on-refused Done x r p t = absurd (t refl)
 on-refused (Count k) x r p t = absurd (omega (arith, p))
 on-refused NotFile x r p t = refl
 on-refused InvalidParam x r p t = refl

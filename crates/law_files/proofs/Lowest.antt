@@ -78,8 +78,8 @@ module _ {img out l : List ℕ} {n len : ℕ} (s : Sound img l) (h : 0 < cnt n l
 
 -- ---- a write in its data leaves the map and the places
 
-pub data_lowest : {img mid out l : List ℕ} {n : ℕ} → Sound mid l → 0 < cnt n l → blocks mid ≡ blocks img → WithinData mid out n → Lowest img mid n → Lowest img out n
-data_lowest {img} {mid} {out} {l} {n} m h same w f p u new b q free =
+pub data_lowest : (img : List ℕ) {mid out l : List ℕ} {n : ℕ} → Sound mid l → 0 < cnt n l → blocks mid ≡ blocks img → WithinData mid out n → Lowest img mid n → Lowest img out n
+data_lowest img {mid} {out} {l} {n} m h same w f p u new b q free =
     let slots = data_slots m h w in
     let v : InUse mid n p = in_use_is mid out n (count_is slots.rec) p u in
     omega (
@@ -122,7 +122,7 @@ module _ (img l : List ℕ) (s : Sound img l) (bytes : Bytes img) (n : ℕ) (h :
               let d : count mid n ≡ blocks_for len = x.balanced.inode.shape.counted ∙ ap blocks_for x.size_is in
               let same = x.balanced.steady.blocks_same in
               subst (λ (y : ℕ). Lowest img (cleaned y n (size img n) z mid) n) same
-              (data_lowest m h same (filled_within m x.bytes n h true [] (size img n) z (omega arith) (omega (arith, d))) f)
+              (data_lowest _ m h same (filled_within m x.bytes n h true [] (size img n) z (omega arith) (omega (arith, d))) f)
 
   pub resize_lowest : Lowest img (resized (blocks img) n (inode_at img n k) len img) n
   unfolding resized

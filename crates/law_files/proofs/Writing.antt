@@ -189,7 +189,7 @@ module _ {l img mid : List ℕ} (b : Bytes img) (n : ℕ) (h : 0 < cnt n l) (off
       ∙ ap (λ (y : ℕ). byte img (4096 * y + o % 4096)) (sym (data_is (data_slots x.sound h fills) (o / 4096) (omega arith)))
 
   pub lowest_wrote : Lowest img mid n → Lowest img (filled false src (blocks mid) n off (end_of off src) mid) n
-  lowest_wrote = data_lowest x.sound h x.blocks_same fills
+  lowest_wrote = data_lowest _ x.sound h x.blocks_same fills
 
   module _ (s : Sound img l) (t : Tree img l) (c : Bytes src) (k : kind img n ≢ 2) where
     pub only_wrote : Only l img out n

@@ -1,0 +1,7 @@
+use Rattle.dir_entries.specs.Entries.{appended}
+use borrow.Author.Rules.{rules}
+use Rattle.dir_entries.proofs.editing.append_direntry.Goals as goal
+
+pub returns : goal.returns
+unfolding appended
+returns c = rw (c.write_entry.ensures, c.fit.ensures)

@@ -1,0 +1,7 @@
+use Rattle.dir_entries.specs.Entries.{entry_at}
+use borrow.Author.Rules.{rules}
+use Rattle.dir_entries.proofs.editing.read_entry.Goals as goal
+
+pub returns : goal.returns
+unfolding entry_at
+returns c = c.read_at.ensures

@@ -1,0 +1,8 @@
+use Rattle.dir_entries.specs.Entries.{removed}
+use borrow.Author.Rules.{rules}
+use Rattle.dir_entries.proofs.editing.remove_direntry.Goals as goal
+
+pub returns : goal.returns
+unfolding removed
+returns c =
+    rw (c.fit.ensures, c.write_entry.ensures, c.read_entry-e.ensures)

@@ -1,0 +1,21 @@
+use borrow.Author.Tests.{lt-ltb, le-ltb}
+use borrow.Author.Rules.{rules}
+use Rattle.file_blocks.specs.Bytes.{indirect_fill}
+use Rattle.file_fill.proofs.fill_indirect.Goals as goal
+
+pub returns-then-p-nb : goal.returns-then-p-nb
+unfolding indirect_fill
+returns-then-p-nb c = rw (← c.get32-p.ensures, le-ltb _ _ c.if-p-nb.true)
+
+pub returns : goal.returns
+unfolding indirect_fill
+returns c =
+    rw (
+      c.fill_run.ensures,
+      c.clamp-e.ensures,
+      c.after_of.ensures,
+      c.clamp-i.ensures,
+      c.first_of.ensures,
+      ← c.get32-p.ensures,
+      lt-ltb _ _ c.if-p-nb.false,
+    )

@@ -1,0 +1,18 @@
+use borrow.Author.Tests.{lt-ltb, le-ltb}
+use borrow.Author.Rules.{rules}
+use Rattle.file_blocks.specs.Bytes.{level_fill}
+use Rattle.file_fill.proofs.fill_level.Goals as goal
+
+pub returns-then-a-nb : goal.returns-then-a-nb
+unfolding level_fill
+returns-then-a-nb c = rw (le-ltb _ _ c.if-a-nb.true)
+
+pub returns : goal.returns
+unfolding level_fill
+returns c =
+    rw (
+      c.fill_run.ensures,
+      c.level_to-e.ensures,
+      c.level_from-i.ensures,
+      lt-ltb _ _ c.if-a-nb.false,
+    )

@@ -1,0 +1,30 @@
+use mathlib.Core.Path.{sym, ◌∙◌}
+use Rattle.file_requests.proofs.Answers.{judged-within, judged-countless, on-done, on-refused}
+use Rattle.file_requests.proofs.Calls.{resize_good}
+use borrow.Author.Rules.{rules}
+use Rattle.file_requests.proofs.requests.resize_file.Goals as goal
+
+pub returns-in_default : goal.returns-in_default
+returns-in_default c =
+    let j = c.judge-r in
+    let u = c.unused_blocks-u in
+    let a = c.args in
+    resize_good a.nb a.image.now a.n.0 a.len a.h _ _ c.requires.2
+    (rw (← u.ensures) j.ensures)
+    (rw (← u.ensures, ← j.ensures) (sym (on-refused j.result _ _ (rw j.ensures (judged-countless _ _ _)) c.in_default.not-Done)))
+
+pub overflow_cast-len : goal.overflow_cast-len
+overflow_cast-len c =
+    let l = judged-within _ _ _ (sym c.judge-r.ensures ∙ c.in-Done.is) in
+    search rules
+
+pub returns : goal.returns
+returns c =
+    let r = c.record_with-d in
+    let t = c.in-Done in
+    let j = c.judge-r in
+    let u = c.unused_blocks-u in
+    let a = c.args in
+    resize_good a.nb a.image.now a.n.0 a.len a.h _ _ c.requires.2
+    (rw (← u.ensures) j.ensures)
+    (rw (← u.ensures, ← j.ensures, ← r.ensures) (c.resize_to.ensures ∙ sym (on-done j.result _ _ t.is)))

@@ -1,0 +1,16 @@
+use native.Mathlib.Omega.{arith}
+use Rattle.file_requests.proofs.Changes.{shorter_by}
+use borrow.Author.Rules.{rules}
+use Rattle.file_requests.proofs.resizing.shorten.Goals as goal
+
+pub returns : goal.returns
+returns c =
+    let a = c.args in
+    shorter_by a.nb a.n.0 a.d a.len a.image.now _ _ _ _ _ _ _
+    c.file_blocks-a.ensures
+    c.blocks_for-b.ensures
+    c.shrink.ensures
+    c.less_indirect-e.ensures
+    c.less_double-f.ensures
+    c.of_length.ensures
+    c.encode.ensures
