@@ -2,7 +2,7 @@
 use Prim.Native.Nat.{ℕ}
 use mathlib.Core.Path.{◌≡◌, refl, sym, ◌∙◌}
 use mathlib.Core.List.{List}
-use Rattle.cache.specs.Calls.{Call, ReadCall, WriteCall, SyncCall}
+use Rattle.cache.specs.Calls.{ReadCall, WriteCall, SyncCall}
 use Rattle.cache.specs.Calls.Call.{done, refused}
 
 module _ {w d v : List ℕ} {b : ℕ} {buf : List ℕ} where

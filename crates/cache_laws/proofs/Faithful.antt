@@ -1,18 +1,16 @@
 -- The cache is the device alone: over any run, and after a sync the device is it. Assumes nothing.
-use Prim.Native.Nat.{ℕ, ◌+◌, ◌*◌, ◌/◌, ◌<◌}
+use Prim.Native.Nat.{ℕ, ◌+◌, ◌*◌, ◌<◌}
 use mathlib.Core.Path.{◌≡◌, refl, sym, ap, ◌∙◌}
-use mathlib.Core.Logic.{◌≢◌}
-use mathlib.Core.List.{List, [], ◌∷◌}
+use mathlib.Core.List.{List}
 use native.Mathlib.Omega.{arith}
 use native.Mathlib.Decide.{ℕ_discrete}
-use lib.ListN.{length}
 use Rattle.words.specs.Words.{byte}
 use Rattle.words.specs.Inner.{Apart}
 use Rattle.words.specs.Runs.{copied}
 use Rattle.cache_order.specs.Slots.{slots_in, status_at, block_at, Fit}
-use Rattle.cache.specs.Calls.{Call, ReadCall, WriteCall, SyncCall}
+use Rattle.cache.specs.Calls.{Call, ReadCall, SyncCall}
 use Rattle.cache.specs.Calls.Call.{done, refused}
-use Rattle.cache_laws.specs.Runs.{Event, Through, Asked, Straight}
+use Rattle.cache_laws.specs.Runs.{Event, Through, Asked}
 use Rattle.cache_laws.specs.Runs.Through.{none, read, write, sync}
 use Rattle.cache_laws.specs.Runs.Straight.{alone_none, alone_read, alone_write, alone_sync}
 use Rattle.cache_laws.specs.Faithful.{Fresh, Stands, Same, Faithful}

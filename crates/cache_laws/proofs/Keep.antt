@@ -1,23 +1,21 @@
 -- What a call keeps: the slots stay sound, and a block written back leaves the device as it stands for. Assumes nothing.
-use Prim.Native.Nat.{ℕ, zero, suc, ◌+◌, ◌-◌, ◌*◌, ◌/◌, ◌≤◌, ◌<◌}
-use mathlib.Core.Path.{◌≡◌, refl, sym, ap, ◌∙◌, subst}
+use Prim.Native.Nat.{ℕ, ◌+◌, ◌-◌, ◌*◌, ◌≤◌, ◌<◌}
+use mathlib.Core.Path.{◌≡◌, refl, sym, ◌∙◌, subst}
 use mathlib.Core.Logic.{◌≢◌}
 use mathlib.Core.Bool.{Bool, true, false}
 use mathlib.Core.List.{List}
 use native.Mathlib.Omega.{arith}
 use native.Mathlib.Decide.{dec_lt, ℕ_discrete}
 use borrow.Author.Tests.{eq-eqb, ne_eqb}
-use lib.ListN.{length, get_or}
+use lib.ListN.{length}
 use lib.Dec.{eqb}
 use Rattle.words.specs.Words.{byte, pick}
 use Rattle.words.specs.Inner.{Apart}
 use Rattle.words.specs.Runs.{copied}
 use Rattle.words.proofs.Runs.{length-copied, byte-copied_off, byte-copied_in}
-use Rattle.cache_order.specs.Slots.{slots_in, status_at, block_at, place_at, Inside, Fits, Differ, Sizes, AllFit, Alone, AllApart, Sound}
-use Rattle.cache_order.specs.Order.{slot_for, entered, place_after}
+use Rattle.cache_order.specs.Slots.{slots_in, status_at, block_at, place_at, Inside, Fits, Differ, Sound}
+use Rattle.cache_order.specs.Order.{entered}
 use Rattle.cache.specs.Effects.{flushed}
-use Rattle.cache_laws.specs.Faithful.{Stands}
-use Rattle.cache_laws.proofs.Search.{only}
 use Rattle.cache_laws.proofs.Enter.{entered-length, entered_slots, entered_status, entered_block, entered_place, entered_status_off, entered_block_off, entered_place_off, after_not_first, after_differ}
 
 -- slot i of a sound list, entered for a block of the device that no other slot holds

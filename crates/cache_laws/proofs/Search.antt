@@ -1,16 +1,16 @@
 -- The slot for a block: no other slot holds it. Assumes nothing.
-use Prim.Native.Nat.{ℕ, zero, suc, ◌+◌, ◌*◌, ◌/◌, ◌≤◌, ◌<◌}
+use Prim.Native.Nat.{ℕ, zero, suc, ◌+◌, ◌≤◌, ◌<◌}
 use mathlib.Core.Path.{◌≡◌, refl, sym, ap, ◌∙◌}
 use mathlib.Core.Logic.{◌≢◌}
-use mathlib.Core.Bool.{Bool, true, false, not, ◌&&◌}
+use mathlib.Core.Bool.{Bool, true, false}
 use mathlib.Core.List.{List}
 use native.Mathlib.Omega.{arith}
 use native.Mathlib.Decide.{dec_lt, ℕ_discrete}
-use borrow.Author.Tests.{lt-ltb, le-ltb, eq-eqb, ne_eqb, eqb-true, eqb-false}
-use lib.Dec.{eqb, ltb}
+use borrow.Author.Tests.{lt-ltb, eq-eqb, ne_eqb, eqb-true}
+use lib.Dec.{eqb}
 use Rattle.words.specs.Words.{pick}
-use Rattle.cache_order.specs.Slots.{slots_in, status_at, block_at, Differ, Sound}
-use Rattle.cache_order.specs.Order.{first, unused_at, holds, hit_of, room_of, slot_for}
+use Rattle.cache_order.specs.Slots.{slots_in, status_at, block_at, Sound}
+use Rattle.cache_order.specs.Order.{first, unused_at, holds, hit_of, slot_for}
 
 -- a search that finds one finds it, and none that it passed
 pub first_hit : (p : ℕ → Bool) (i n : ℕ) → first p i n < i + n → p (first p i n) ≡ true

@@ -1,26 +1,26 @@
 -- One call: what slots, data and device stand for after a read, a write and a sync. Assumes nothing.
-use Prim.Native.Nat.{ℕ, zero, suc, ◌+◌, ◌-◌, ◌*◌, ◌/◌, ◌≤◌, ◌<◌}
+use Prim.Native.Nat.{ℕ, suc, ◌+◌, ◌*◌, ◌≤◌, ◌<◌}
 use mathlib.Core.Path.{◌≡◌, refl, sym, ap, ◌∙◌, subst}
 use mathlib.Core.Logic.{◌≢◌}
 use mathlib.Core.Bool.{Bool, true, false}
 use mathlib.Core.List.{List}
 use native.Mathlib.Omega.{arith}
-use native.Mathlib.Decide.{dec_lt, ℕ_discrete}
-use borrow.Author.Tests.{eq-eqb, ne_eqb}
-use lib.ListN.{length, get_or}
+use native.Mathlib.Decide.{ℕ_discrete}
+use borrow.Author.Tests.{ne_eqb}
+use lib.ListN.{length}
 use lib.Seq.{ext_get_or}
 use lib.Dec.{eqb}
 use Rattle.words.specs.Words.{byte, pick}
 use Rattle.words.specs.Inner.{Apart}
-use Rattle.words.specs.Runs.{puts, copied, turns}
+use Rattle.words.specs.Runs.{copied, turns}
 use Rattle.words.proofs.Runs.{length-copied, byte-copied_off, byte-copied_in, puts_is, length-puts, byte-puts_off, byte-puts_in, turns_keep}
-use Rattle.cache_order.specs.Slots.{slots_in, status_at, block_at, place_at, Inside, Fits, Differ, Sizes, AllFit, Alone, AllApart, Sound, Fit}
+use Rattle.cache_order.specs.Slots.{slots_in, status_at, block_at, place_at, Inside, Sound}
 use Rattle.cache_order.specs.Order.{holds, slot_for, entered}
 use Rattle.cache.specs.Effects.{flushed, roomed, loaded, read_slots, used_device, read_data, read_buf, write_slots, write_data, sync_device}
 use Rattle.cache_order.specs.Order.{read_status, clean_status, sync_slots}
 use Rattle.cache_order.proofs.Laws.{slot_below, sound_device}
 use Rattle.cache_laws.specs.Faithful.{Stands}
-use Rattle.cache_laws.proofs.Search.{Held, holds_true, holds_false, only, one_block}
+use Rattle.cache_laws.proofs.Search.{Held, holds_true, only}
 use Rattle.cache_laws.proofs.Enter.{entered_slots, entered_status, entered_block, entered_status_off, entered_block_off}
 use Rattle.cache_laws.proofs.Keep.{sound_entered, flushed-length, Clear, flush_rest}
 

@@ -1,6 +1,6 @@
 -- Laws of the search for a slot, and of what is sound on a device. Assumes nothing.
-use Prim.Native.Nat.{ℕ, zero, suc, ◌+◌, ◌-◌, ◌*◌, ◌/◌, ◌%◌, ◌≤◌, ◌<◌}
-use mathlib.Core.Path.{◌≡◌, refl, sym, ap, ◌∙◌}
+use Prim.Native.Nat.{ℕ, zero, suc, ◌+◌, ◌-◌, ◌%◌, ◌≤◌, ◌<◌}
+use mathlib.Core.Path.{◌≡◌, ap, ◌∙◌}
 use mathlib.Core.Bool.{Bool, true, false}
 use mathlib.Core.List.{List}
 use mathlib.Core.Logic.{◌≢◌}
@@ -12,8 +12,8 @@ use lib.ListN.{length, get_or, set}
 use lib.Seq.{get_or-set_same, get_or-set_other}
 use lib.Dec.{ltb}
 use Rattle.words.specs.Words.{pick}
-use Rattle.cache_order.specs.Slots.{slots_in, status_at, block_at, place_at, Fits, Differ, AllFit, Alone, Sound, Marked}
-use Rattle.cache_order.specs.Order.{first, unused_at, holds, hit_of, spare_of, older_of, oldest, room_of, slot_for}
+use Rattle.cache_order.specs.Slots.{slots_in, status_at, block_at, place_at, Alone, Sound, Marked}
+use Rattle.cache_order.specs.Order.{first, hit_of, spare_of, older_of, oldest, room_of, slot_for}
 
 module _ (p : ℕ → Bool) (n : ℕ) where
   -- a turn of a search from i on

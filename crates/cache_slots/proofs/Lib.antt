@@ -1,9 +1,4 @@
-pub mod Again
-pub mod Elem
 pub mod Laws
-pub mod Lent
-pub mod PlainElem
 pub mod PlainLaws
 pub mod RecordLaws
 pub mod Records
-pub mod Rows

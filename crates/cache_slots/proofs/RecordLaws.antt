@@ -1,23 +1,18 @@
 -- Records and words say the same: what a call over the words of a list of slots leaves, said of the slots. Assumes nothing.
 use mathlib.Core.Path.{◌≡◌, refl, sym, ap, ◌∙◌, subst}
-use mathlib.Core.Logic.{◌≢◌}
-use Prim.Native.Nat.{ℕ, zero, suc, ◌+◌, ◌-◌, ◌*◌, ◌/◌, ◌%◌, ◌<◌, ◌≤◌}
+use Prim.Native.Nat.{ℕ, zero, suc, ◌+◌, ◌*◌, ◌/◌, ◌%◌, ◌<◌, ◌≤◌}
 use native.Mathlib.Omega.{arith}
-use native.Mathlib.Decide.{dec_lt, ℕ_discrete}
-use mathlib.Core.Bool.{Bool, true, false}
+use native.Mathlib.Decide.{ℕ_discrete}
 use mathlib.Core.List.{List, [], ◌∷◌}
-use lib.Dec.{ltb}
-use lib.ListN.{length, get_or, set, take, length-set, replicate, length-replicate}
+use lib.ListN.{length, get_or, set, take, length-set, length-replicate}
 use lib.Seq.{get_or-set_same, get_or-set_other, ext_get_or, get_or-take, length-take-le, set-get_or}
-use borrow.Author.Tests.{lt-ltb, le-ltb}
-use Rattle.words.specs.Words.{pick}
 use Rattle.cache_order.specs.Slots.{slots_in, status_at, block_at, place_at}
 use Rattle.cache_slots.specs.declared.Status.{Status}
 use Rattle.cache_slots.specs.declared.Status.TheVariants.{Unused, Valid, Dirty}
 use Rattle.cache_slots.specs.declared.Slot.{Slot}
 use Rattle.cache_slots.specs.declared.Plain.{Plain}
 use Rattle.cache_slots.specs.Slots.{none}
-use Rattle.cache_slots.specs.Plain.{status_no, status_by, words_of, few, blank_of, put_of, slot_of, load_to, spread_to}
+use Rattle.cache_slots.specs.Plain.{status_no, status_by, words_of, blank_of, put_of, slot_of, load_to, spread_to}
 use Rattle.cache_slots.proofs.PlainLaws.{spread_length}
 
 -- ---- the words of a list of slots

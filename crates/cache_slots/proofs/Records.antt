@@ -1,7 +1,6 @@
 -- A call over the words of a list of slots is the call over the slots. Assumes nothing.
 use mathlib.Core.Path.{◌≡◌, refl, sym, ap, ◌∙◌, subst}
-use mathlib.Core.Logic.{◌≢◌}
-use Prim.Native.Nat.{ℕ, ◌+◌, ◌*◌, ◌/◌, ◌<◌, ◌≤◌}
+use Prim.Native.Nat.{ℕ, ◌*◌, ◌<◌, ◌≤◌}
 use native.Mathlib.Omega.{arith}
 use native.Mathlib.Decide.{dec_lt}
 use mathlib.Core.Bool.{Bool, true, false}
@@ -12,10 +11,10 @@ use lib.Seq.{get_or-take, length-take-le}
 use borrow.Author.Tests.{lt-ltb, le-ltb}
 use Rattle.words.specs.Words.{pick}
 use Rattle.cache_order.specs.Slots.{slots_in, status_at, Sound, Fit}
-use Rattle.cache_order.specs.Order.{holds, slot_for, entered, read_status}
+use Rattle.cache_order.specs.Order.{holds, slot_for, read_status}
 use Rattle.cache_order.proofs.Laws.{slot_below}
 use Rattle.cache.specs.Effects.{read_slots, write_slots}
-use Rattle.cache.specs.Calls.{Call, ReadCall, WriteCall, SyncCall}
+use Rattle.cache.specs.Calls.{ReadCall, WriteCall, SyncCall}
 use Rattle.cache.specs.Calls.Call.{done, refused}
 use Rattle.cache_laws.proofs.Search.{only}
 use Rattle.cache_laws.proofs.Keep.{sound_entered}
@@ -23,8 +22,8 @@ use Rattle.cache_laws.proofs.Step.{sync_sound}
 use Rattle.cache_slots.specs.declared.Slot.{Slot}
 use Rattle.cache_slots.specs.declared.Plain.{Plain}
 use Rattle.cache_slots.specs.Slots.{none}
-use Rattle.cache_slots.specs.Plain.{status_no, words_of, few, slot_of, load_to, spread_to, PlainRead, PlainWrite, PlainSync}
-use Rattle.cache_slots.proofs.RecordLaws.{words_slots, words_status, status_small, Loaded, loaded, spread_same, spread_words, load_words}
+use Rattle.cache_slots.specs.Plain.{words_of, few, slot_of, load_to, spread_to, PlainRead, PlainWrite, PlainSync}
+use Rattle.cache_slots.proofs.RecordLaws.{words_slots, words_status, status_small, loaded, spread_same, spread_words, load_words}
 
 few_is : (n : ℕ) → n ≤ 64 → few n ≡ n
 unfolding few

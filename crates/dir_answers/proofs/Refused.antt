@@ -2,13 +2,12 @@
 use mathlib.Core.Path.{◌≡◌, refl, sym, ap, ◌∙◌}
 use mathlib.Core.Bool.{Bool, true, false}
 use mathlib.Core.List.{List, [], ◌∷◌}
-use types.Run.{OneOf, miss}
-use denote.Enum.Declared.{tag_of}
 use Prim.Native.Nat.{ℕ}
 use native.Mathlib.Omega.{arith}
 use lib.Dec.{ltb}
 use Rattle.words.specs.Words.{pick}
 use Rattle.card_layout.specs.Inode.{decoded}
+use Rattle.card_layout.specs.declared.INodeId.{INodeId}
 use Rattle.card_layout.specs.declared.inode.Head.{Head}
 use Rattle.card_layout.specs.declared.inode.Decoded.{Decoded}
 use Rattle.card_layout.specs.declared.inode.Decoded.TheVariants.{Good, BadKind}
@@ -18,7 +17,6 @@ use Rattle.dir_entries.specs.Entries.{where_is}
 use Rattle.dir_entries.specs.Names.{storable}
 use Rattle.dir_answers.specs.Answers.{acted_no, if_done, is_dir, of_head, in_dir, new_name}
 use Rattle.dir_answers.specs.Inner.{placed}
-use Rattle.dir_answers.specs.contracts.Acted.{the_type as acted-type}
 use Rattle.dir_answers.specs.declared.Acted.{Acted}
 use Rattle.dir_answers.specs.declared.Acted.TheVariants.{
   Done,
@@ -209,9 +207,9 @@ plain_done InvalidParam p e = absurd (omega (arith, e))
 plain_done TooManyLinks p e = absurd (omega (arith, e))
 plain_done NoDeviceSpace p e = absurd (omega (arith, e))
 
--- so such an answer is refused where its tag is not the one that the code asks for
-pub plain_refused : (j : Acted) → Plain j → OneOf (1 ∷ 2 ∷ 3 ∷ 4 ∷ 5 ∷ 6 ∷ 7 ∷ 8 ∷ 9 ∷ 10 ∷ []) (tag_of acted-type j) → Refused j
-plain_refused Done p t z = absurd (miss (1 ∷ 2 ∷ 3 ∷ 4 ∷ 5 ∷ 6 ∷ 7 ∷ 8 ∷ 9 ∷ 10 ∷ []) 0 tt t)
+-- so such an answer is refused where it is not the one that the code asks for
+pub plain_refused : (j : Acted) → Plain j → (j ≡ Done → ⊥) → Refused j
+plain_refused Done p t z = absurd (t refl)
 plain_refused (Inode n) p t z = omega (arith, p)
 plain_refused NotDir p t z = omega (arith, z)
 plain_refused IsDir p t z = omega (arith, z)
@@ -223,9 +221,9 @@ plain_refused InvalidParam p t z = omega (arith, z)
 plain_refused TooManyLinks p t z = omega (arith, z)
 plain_refused NoDeviceSpace p t z = omega (arith, z)
 
-pub naming_refused : (j : Acted) → Naming j → OneOf (0 ∷ 2 ∷ 3 ∷ 4 ∷ 5 ∷ 6 ∷ 7 ∷ 8 ∷ 9 ∷ 10 ∷ []) (tag_of acted-type j) → Refused j
+pub naming_refused : (j : Acted) → Naming j → ((n : INodeId) → j ≡ Inode n → ⊥) → Refused j
 naming_refused Done p t z = omega (arith, p)
-naming_refused (Inode n) p t z = absurd (miss (0 ∷ 2 ∷ 3 ∷ 4 ∷ 5 ∷ 6 ∷ 7 ∷ 8 ∷ 9 ∷ 10 ∷ []) 1 tt t)
+naming_refused (Inode n) p t z = absurd (t n refl)
 naming_refused NotDir p t z = omega (arith, z)
 naming_refused IsDir p t z = omega (arith, z)
 naming_refused BadName p t z = omega (arith, z)
@@ -236,16 +234,16 @@ naming_refused InvalidParam p t z = omega (arith, z)
 naming_refused TooManyLinks p t z = omega (arith, z)
 naming_refused NoDeviceSpace p t z = omega (arith, z)
 
--- and any answer where its tag is neither
-pub others_refused : (j : Acted) → OneOf (2 ∷ 3 ∷ 4 ∷ 5 ∷ 6 ∷ 7 ∷ 8 ∷ 9 ∷ 10 ∷ []) (tag_of acted-type j) → Refused j
-others_refused Done t z = absurd (miss (2 ∷ 3 ∷ 4 ∷ 5 ∷ 6 ∷ 7 ∷ 8 ∷ 9 ∷ 10 ∷ []) 0 tt t)
-others_refused (Inode n) t z = absurd (miss (2 ∷ 3 ∷ 4 ∷ 5 ∷ 6 ∷ 7 ∷ 8 ∷ 9 ∷ 10 ∷ []) 1 tt t)
-others_refused NotDir t z = omega (arith, z)
-others_refused IsDir t z = omega (arith, z)
-others_refused BadName t z = omega (arith, z)
-others_refused EntryExist t z = omega (arith, z)
-others_refused EntryNotFound t z = omega (arith, z)
-others_refused DirNotEmpty t z = omega (arith, z)
-others_refused InvalidParam t z = omega (arith, z)
-others_refused TooManyLinks t z = omega (arith, z)
-others_refused NoDeviceSpace t z = omega (arith, z)
+-- and any answer that is neither
+pub others_refused : (j : Acted) → (j ≡ Done → ⊥) → ((n : INodeId) → j ≡ Inode n → ⊥) → Refused j
+others_refused Done t u z = absurd (t refl)
+others_refused (Inode n) t u z = absurd (u n refl)
+others_refused NotDir t u z = omega (arith, z)
+others_refused IsDir t u z = omega (arith, z)
+others_refused BadName t u z = omega (arith, z)
+others_refused EntryExist t u z = omega (arith, z)
+others_refused EntryNotFound t u z = omega (arith, z)
+others_refused DirNotEmpty t u z = omega (arith, z)
+others_refused InvalidParam t u z = omega (arith, z)
+others_refused TooManyLinks t u z = omega (arith, z)
+others_refused NoDeviceSpace t u z = omega (arith, z)

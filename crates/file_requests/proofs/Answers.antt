@@ -7,7 +7,6 @@ use lib.Dec.{ltb}
 use Rattle.words.specs.Words.{pick}
 use Rattle.card_layout.specs.Sizes.{blocks_for}
 use Rattle.card_layout.specs.Slots.{owned}
-use Rattle.card_layout.specs.Inode.{size}
 use Rattle.card_layout.specs.declared.inode.FileType.{FileType}
 use Rattle.card_layout.specs.declared.inode.FileType.TheVariants.{File, Dir, SymLink}
 use Rattle.card_layout.specs.declared.inode.Head.{Head}

@@ -3,21 +3,20 @@ use mathlib.Core.Path.{◌≡◌, refl, sym, ap, ◌∙◌, subst}
 use mathlib.Core.Logic.{◌≢◌, ◌⊎◌, ⊎_elim}
 use mathlib.Core.List.{List}
 use mathlib.Core.Bool.{false}
-use Prim.Native.Nat.{ℕ, ◌+◌, ◌-◌, ◌*◌, ◌≤◌, ◌<◌, min, max}
+use Prim.Native.Nat.{ℕ, ◌+◌, ◌-◌, ◌≤◌, ◌<◌, min}
 use native.Mathlib.Omega.{arith}
 use native.Mathlib.Decide.{dec_lt, dec_le}
 use lib.ListN.{length}
-use Rattle.words.specs.Words.{byte, Bytes}
+use Rattle.words.specs.Words.{Bytes}
 use Rattle.words.specs.Sums.{δ, sum_to, cnt}
 use Rattle.words.proofs.Sums.{sum_on_point}
-use Rattle.card_layout.specs.Sizes.{blocks_for}
 use Rattle.card_layout.specs.Super.{blocks, unused, maps}
-use Rattle.card_layout.specs.Inode.{size, kind, links, count}
+use Rattle.card_layout.specs.Inode.{size, kind, count}
 use Rattle.card_layout.specs.Slots.{owned}
 use Rattle.card_layout.specs.declared.inode.FileType.TheVariants.{Dir}
 use Rattle.card_map.specs.Bits.{map_bit}
 use Rattle.card_map.proofs.Map.{bit_below}
-use Rattle.card_rules.specs.View.{file_byte, owns}
+use Rattle.card_rules.specs.View.{owns}
 use Rattle.card_rules.specs.Places.{Place, held, InUse}
 use Rattle.card_rules.specs.Whole.{Reached, Sound, Whole}
 use Rattle.card_rules.specs.Same.{SameFile}

@@ -1,6 +1,6 @@
 -- What the calls on files promise on a whole card, one theorem each: it stays whole, no other inode changes, a length is refused exactly if RULES says so,
 -- growth takes N's blocks, all free before, and what is written is what is read. Assumes nothing.
-use mathlib.Core.Path.{◌≡◌, refl, sym, ap, ◌∙◌, subst}
+use mathlib.Core.Path.{◌≡◌, refl, sym, ap, ◌∙◌}
 use mathlib.Core.Logic.{◌≢◌}
 use mathlib.Core.List.{List}
 use Prim.Native.Nat.{ℕ, ◌+◌, ◌-◌, ◌*◌, ◌≤◌, ◌<◌, min, max}

@@ -1,16 +1,15 @@
 -- A file that grows takes the lowest free blocks: each lies below every block that is free afterwards. Assumes nothing.
 use mathlib.Core.Path.{◌≡◌, sym, ap, ◌∙◌, subst}
-use mathlib.Core.Logic.{◌≢◌}
 use mathlib.Core.Bool.{true}
 use mathlib.Core.List.{List, []}
-use Prim.Native.Nat.{ℕ, ◌+◌, ◌*◌, ◌≤◌, ◌<◌}
+use Prim.Native.Nat.{ℕ, ◌+◌, ◌≤◌, ◌<◌}
 use native.Mathlib.Omega.{arith}
 use native.Mathlib.Decide.{dec_lt}
 use Rattle.words.specs.Words.{Bytes}
 use Rattle.words.specs.Sums.{cnt}
 use Rattle.words.proofs.Sums.{sum_to_next}
 use Rattle.card_layout.specs.Sizes.{blocks_for}
-use Rattle.card_layout.specs.Super.{blocks, unused, maps}
+use Rattle.card_layout.specs.Super.{blocks, unused}
 use Rattle.card_layout.specs.Inode.{size, kind, count, kind_no}
 use Rattle.card_layout.specs.Slots.{owned}
 use Rattle.card_layout.specs.declared.inode.FileType.{FileType}
@@ -18,11 +17,11 @@ use Rattle.card_layout.proofs.InodeLaws.{inode_at}
 use Rattle.card_map.specs.Bits.{map_bit, free_bits}
 use Rattle.card_map.proofs.Map.{bit_below}
 use Rattle.card_rules.specs.Whole.{Sound}
-use Rattle.card_rules.specs.Places.{Place, held, InUse}
+use Rattle.card_rules.specs.Places.{InUse}
 use Rattle.card_rules.proofs.Frames.{count_is}
 use Rattle.card_rules.proofs.Kept.{slots_few, bit_of_lem}
 use Rattle.card_rules.proofs.Isolation.{WithinData, sound_one, data_slots, data_map}
-use Rattle.file_grow.proofs.Taken.{nth_free, nth_below, nth_free_lem, nth_of, nth_rising}
+use Rattle.file_grow.proofs.Taken.{nth_below, nth_free_lem, nth_of, nth_rising}
 use Rattle.file_requests.specs.Resizing.{cleaned, fitted, new_zero, resized}
 use Rattle.file_requests.proofs.Changes.{new_some, new_none}
 use Rattle.file_requests.specs.Requests.{longest, needs}

@@ -2,7 +2,7 @@
 use mathlib.Core.Path.{◌≡◌, refl, sym, ap, ◌∙◌, subst}
 use mathlib.Core.Logic.{◌≢◌}
 use mathlib.Core.List.{List}
-use Prim.Native.Nat.{ℕ, ◌-◌, ◌<◌}
+use Prim.Native.Nat.{ℕ, ◌<◌}
 use native.Mathlib.Omega.{arith}
 use native.Mathlib.Decide.{dec_lt, ℕ_discrete}
 use Rattle.words.specs.Words.{Bytes}
@@ -15,7 +15,7 @@ use Rattle.card_rules.specs.View.{file_byte}
 use Rattle.card_rules.specs.Whole.{Sound, Tree}
 use Rattle.card_rules.specs.Places.{Place, held, InUse}
 use Rattle.card_rules.specs.Same.{SameFile}
-use Rattle.card_rules.proofs.Frames.{size_is, kind_is, file_refl, file_byte_is, inode_room}
+use Rattle.card_rules.proofs.Frames.{kind_is, file_refl, file_byte_is, inode_room}
 use Rattle.card_rules.proofs.Kept.{slots_few}
 use Rattle.file_requests.specs.Requests.{longest, needs, resize_card}
 use Rattle.law_files.specs.Requests.{Request, resizing, named}

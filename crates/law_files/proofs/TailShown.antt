@@ -14,7 +14,7 @@ use Rattle.card_layout.specs.Inode.{size, kind, count, kind_no}
 use Rattle.card_layout.specs.Slots.{owned}
 use Rattle.card_layout.specs.declared.inode.FileType.{FileType}
 use Rattle.card_layout.proofs.InodeLaws.{inode_at}
-use Rattle.card_rules.specs.View.{data_at, file_byte}
+use Rattle.card_rules.specs.View.{data_at}
 use Rattle.card_rules.specs.Whole.{Sound}
 use Rattle.card_rules.specs.Places.{at_data}
 use Rattle.card_rules.proofs.Views.{file_byte_at}

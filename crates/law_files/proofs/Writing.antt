@@ -15,7 +15,7 @@ use Rattle.card_layout.specs.Super.{blocks, unused}
 use Rattle.card_layout.specs.Inode.{size, kind, count, head_at}
 use Rattle.card_layout.specs.declared.inode.FileType.{FileType}
 use Rattle.card_layout.specs.declared.inode.FileType.TheVariants.{File, Dir, SymLink}
-use Rattle.card_rules.specs.View.{file_byte, data_at}
+use Rattle.card_rules.specs.View.{file_byte}
 use Rattle.card_rules.proofs.Views.{file_byte_at}
 use Rattle.card_rules.specs.Whole.{Sound, Tree}
 use Rattle.card_rules.proofs.Frames.{size_is, count_is, data_is, inode_room}

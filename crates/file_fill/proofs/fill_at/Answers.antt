@@ -1,4 +1,3 @@
-use borrow.Author.Rules.{rules}
 use Rattle.file_blocks.specs.Bytes.{filled}
 use Rattle.file_fill.proofs.fill_at.Goals as goal
 

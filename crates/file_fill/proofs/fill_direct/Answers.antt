@@ -1,4 +1,3 @@
-use borrow.Author.Rules.{rules}
 use Rattle.file_blocks.specs.Bytes.{direct_fill}
 use Rattle.file_fill.proofs.fill_direct.Goals as goal
 

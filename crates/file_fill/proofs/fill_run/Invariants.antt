@@ -1,12 +1,9 @@
-use mathlib.Core.Path.{◌≡◌, refl, ◌∙◌}
-use native.Mathlib.Nat.{le_refl}
-use native.Mathlib.Omega.{arith}
+use mathlib.Core.Path.{◌≡◌}
 use Prim.Native.Nat.{◌≤◌, ◌*◌, ◌-◌, ◌+◌, max}
 use lib.ListN.{length}
 use Rattle.words.specs.Words.{word}
 use Rattle.words.specs.Runs.{turns}
-use Rattle.words.proofs.Runs.{turns_none, turns_more}
-use Rattle.file_blocks.specs.Bytes.{piece_fill, run_fill}
+use Rattle.file_blocks.specs.Bytes.{piece_fill}
 use Rattle.file_fill.proofs.fill_run.Given as goal
 
 abbrev pub invariant-loop-j : goal.invariant-loop-j

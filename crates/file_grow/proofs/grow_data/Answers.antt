@@ -1,5 +1,4 @@
-use Rattle.file_grow.proofs.Following.{data_steps, after_direct, after_single}
-use Rattle.file_grow.specs.Inner.{growing_at}
+use Rattle.file_grow.proofs.Following.{after_direct, after_single}
 use Prim.Native.Nat.{◌≤◌, ◌<◌}
 use native.Mathlib.Omega.{arith}
 use borrow.Author.Rules.{rules}

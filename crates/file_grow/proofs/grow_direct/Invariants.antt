@@ -1,16 +1,9 @@
-use Rattle.file_grow.specs.Inner.{growing_at}
-use Rattle.file_blocks.proofs.Picks.{both}
-use Prim.Native.Nat.{ℕ, ◌-◌, ◌≤◌, min}
-use mathlib.Core.Path.{◌≡◌, refl, ap, ◌∙◌}
-use native.Mathlib.Nat.{le_refl}
-use native.Mathlib.Omega.{arith}
-use borrow.Author.Rules.{rules}
+use Prim.Native.Nat.{◌-◌, ◌≤◌}
+use mathlib.Core.Path.{◌≡◌}
 use lib.ListN.{length}
 use Rattle.words.specs.Runs.{turns}
-use Rattle.words.proofs.Runs.{turns_none, turns_more}
-use Rattle.file_blocks.specs.Taking.{Growing, into_direct, grow_direct}
-use Rattle.file_blocks.proofs.Growth.{next_free_below}
-use Rattle.file_grow.proofs.Following.{grew_by, direct_step, joined}
+use Rattle.file_blocks.specs.Taking.{into_direct}
+use Rattle.file_grow.proofs.Following.{joined}
 use Rattle.file_grow.proofs.grow_direct.Given as goal
 
 abbrev pub invariant-loop-i : goal.invariant-loop-i

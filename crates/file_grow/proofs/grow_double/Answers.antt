@@ -3,7 +3,6 @@ use native.Mathlib.Omega.{arith}
 use Rattle.file_grow.specs.Inner.{growing_at}
 use Rattle.file_blocks.proofs.Growth.{next_free_below, grow_double_past, grow_double_short, grow_double_over}
 use Rattle.file_grow.proofs.Following.{grew_by, double_step}
-use borrow.Author.Rules.{rules}
 use Rattle.file_grow.proofs.grow_double.Goals as goal
 
 pub returns-then-a-ge1036 : goal.returns-then-a-ge1036

@@ -3,7 +3,6 @@ use native.Mathlib.Omega.{arith}
 use Rattle.file_grow.specs.Inner.{growing_at}
 use Rattle.file_blocks.proofs.Growth.{next_free_below, grow_indirect_past, grow_indirect_short, grow_indirect_over}
 use Rattle.file_grow.proofs.Following.{grew_by, indirect_step}
-use borrow.Author.Rules.{rules}
 use Rattle.file_grow.proofs.grow_indirect.Goals as goal
 
 pub returns-then-a-ge12 : goal.returns-then-a-ge12

@@ -3,7 +3,6 @@ use mathlib.Core.Path.{sym}
 use native.Mathlib.Omega.{arith}
 use Rattle.file_grow.specs.Inner.{cursor_at}
 use Rattle.file_blocks.proofs.Growth.{grow_part_out}
-use borrow.Author.Rules.{rules}
 use Rattle.file_grow.proofs.grow_part.Goals as goal
 
 pub returns-then-s-nb : goal.returns-then-s-nb

@@ -1,12 +1,10 @@
-use Prim.Native.Nat.{ℕ, ◌+◌, ◌*◌, ◌-◌, ◌≤◌}
-use mathlib.Core.Path.{◌≡◌, refl, ap, ◌∙◌}
+use Prim.Native.Nat.{◌+◌, ◌*◌}
+use mathlib.Core.Path.{refl, ap, ◌∙◌}
 use native.Mathlib.Omega.{arith}
-use borrow.Author.Rules.{rules}
-use lib.ListN.{length}
-use Rattle.file_blocks.specs.Taking.{Cursor, into_word, grow_run}
+use Rattle.file_blocks.specs.Taking.{Cursor, into_word}
 use Rattle.file_grow.specs.Inner.{cursor_at}
 use Rattle.file_blocks.proofs.Growth.{next_free_below, grow_run_none, grow_run_more}
-use Rattle.file_grow.proofs.Following.{moved_by, word_step}
+use Rattle.file_grow.proofs.Following.{word_step}
 use Rattle.file_grow.proofs.grow_run.Goals as goal
 
 pub loop-j-init : goal.loop-j-init

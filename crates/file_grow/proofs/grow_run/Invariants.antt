@@ -1,12 +1,8 @@
-use Prim.Native.Nat.{ℕ, ◌+◌, ◌*◌, ◌-◌, ◌≤◌}
-use mathlib.Core.Path.{◌≡◌, refl, ap, ◌∙◌}
-use native.Mathlib.Omega.{arith}
-use borrow.Author.Rules.{rules}
+use Prim.Native.Nat.{◌-◌, ◌≤◌}
+use mathlib.Core.Path.{◌≡◌}
 use lib.ListN.{length}
-use Rattle.file_blocks.specs.Taking.{Cursor, into_word, grow_run}
+use Rattle.file_blocks.specs.Taking.{grow_run}
 use Rattle.file_grow.specs.Inner.{cursor_at}
-use Rattle.file_blocks.proofs.Growth.{next_free_below, grow_run_none, grow_run_more}
-use Rattle.file_grow.proofs.Following.{moved_by, word_step}
 use Rattle.file_grow.proofs.grow_run.Given as goal
 
 abbrev pub invariant-loop-j : goal.invariant-loop-j

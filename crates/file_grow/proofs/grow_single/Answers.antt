@@ -3,7 +3,6 @@ use mathlib.Core.Path.{sym}
 use native.Mathlib.Omega.{arith}
 use Rattle.file_grow.specs.Inner.{growing_at}
 use Rattle.file_blocks.proofs.Growth.{grow_single_out}
-use borrow.Author.Rules.{rules}
 use Rattle.file_grow.proofs.grow_single.Goals as goal
 
 pub returns-then-p-nb : goal.returns-then-p-nb

@@ -1,15 +1,12 @@
 use Rattle.file_grow.proofs.Following.{twofold_turn_lem, twofold_end, grew_by}
-use Prim.Native.Nat.{◌-◌, ◌≤◌}
+use Prim.Native.Nat.{◌-◌}
 use mathlib.Core.Path.{◌≡◌, sym, refl}
 use native.Mathlib.Omega.{arith}
-use borrow.Author.Rules.{rules}
 use native.Mathlib.Nat.{le_refl}
-use lib.ListN.{length}
-use Rattle.words.specs.Runs.{turns}
 use Rattle.words.proofs.Runs.{turns_none}
 use Rattle.file_blocks.specs.Ranges.{parts_from, parts_to}
 use Rattle.file_grow.specs.Inner.{cursor_at, growing_at}
-use Rattle.file_blocks.proofs.Growth.{twofold_turn, grow_twofold_out, from-grow_part}
+use Rattle.file_blocks.proofs.Growth.{grow_twofold_out, from-grow_part}
 use Rattle.file_grow.proofs.grow_twofold.Goals as goal
 
 pub returns-then-p-nb : goal.returns-then-p-nb

@@ -1,4 +1,3 @@
-use borrow.Author.Rules.{rules}
 use Rattle.file_blocks.specs.Bytes.{read_into}
 use Rattle.file_read.proofs.read_at.Goals as goal
 

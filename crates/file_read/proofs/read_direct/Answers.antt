@@ -1,4 +1,3 @@
-use borrow.Author.Rules.{rules}
 use Rattle.file_blocks.specs.Bytes.{direct_read}
 use Rattle.file_read.proofs.read_direct.Goals as goal
 

@@ -1,14 +1,10 @@
 use borrow.Author.Tests.{lt-ltb, le-ltb}
-use borrow.Author.Rules.{rules}
 use mathlib.Core.Path.{◌≡◌, refl, ◌∙◌}
 use native.Mathlib.Nat.{le_refl}
 use native.Mathlib.Omega.{arith}
-use Prim.Native.Nat.{◌≤◌, ◌*◌, ◌-◌, ◌+◌, max}
-use lib.ListN.{length}
-use Rattle.words.specs.Words.{word}
-use Rattle.words.specs.Runs.{turns}
+use Prim.Native.Nat.{◌-◌}
 use Rattle.words.proofs.Runs.{turns_none, turns_more}
-use Rattle.file_blocks.specs.Bytes.{level_read, double_read}
+use Rattle.file_blocks.specs.Bytes.{double_read}
 use Rattle.file_read.proofs.read_double.Goals as goal
 
 pub returns-then-d-nb : goal.returns-then-d-nb
@@ -19,13 +15,12 @@ pub loop-q-init : goal.loop-q-init
 loop-q-init c = (le_refl _, omega arith, refl, turns_none _ _ _)
 
 pub loop-q-preserved : goal.loop-q-preserved
-loop-q-preserved c =
-    (
-      omega arith,
-      omega arith,
-      c.read_level.auto.buf ∙ c.loop-q.invariant.2,
-      c.read_level.ensures ∙ rw (c.loop-q.invariant.3, c.get32.ensures) (turns_more _ _ _ c.loop-q.q c.loop-q.invariant.0),
-    )
+loop-q-preserved c = (
+  omega arith,
+  omega arith,
+  c.read_level.auto.buf ∙ c.loop-q.invariant.2,
+  c.read_level.ensures ∙ rw (c.loop-q.invariant.3, c.get32.ensures) (turns_more _ _ _ c.loop-q.q c.loop-q.invariant.0),
+)
 
 pub returns : goal.returns
 unfolding double_read

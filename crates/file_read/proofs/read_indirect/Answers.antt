@@ -1,8 +1,5 @@
-use native.Mathlib.Omega.{arith}
 use borrow.Author.Tests.{lt-ltb, le-ltb}
-use borrow.Author.Rules.{rules}
 use Rattle.file_blocks.specs.Bytes.{indirect_read}
-use Rattle.file_blocks.proofs.Ranges.{indirect_room}
 use Rattle.file_read.proofs.read_indirect.Goals as goal
 
 pub returns-then-p-nb : goal.returns-then-p-nb

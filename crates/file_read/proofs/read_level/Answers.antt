@@ -1,5 +1,4 @@
 use borrow.Author.Tests.{lt-ltb, le-ltb}
-use borrow.Author.Rules.{rules}
 use Rattle.file_blocks.specs.Bytes.{level_read}
 use Rattle.file_read.proofs.read_level.Goals as goal
 

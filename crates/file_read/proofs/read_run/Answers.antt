@@ -1,26 +1,21 @@
-use borrow.Author.Rules.{rules}
 use mathlib.Core.Path.{◌≡◌, refl, ◌∙◌}
 use native.Mathlib.Nat.{le_refl}
 use native.Mathlib.Omega.{arith}
-use Prim.Native.Nat.{◌≤◌, ◌*◌, ◌-◌, ◌+◌, max}
-use lib.ListN.{length}
-use Rattle.words.specs.Words.{word}
-use Rattle.words.specs.Runs.{turns}
+use Prim.Native.Nat.{◌-◌}
 use Rattle.words.proofs.Runs.{turns_none, turns_more}
-use Rattle.file_blocks.specs.Bytes.{piece_read, run_read}
+use Rattle.file_blocks.specs.Bytes.{run_read}
 use Rattle.file_read.proofs.read_run.Goals as goal
 
 pub loop-j-init : goal.loop-j-init
 loop-j-init c = (le_refl _, omega arith, refl, turns_none _ _ _)
 
 pub loop-j-preserved : goal.loop-j-preserved
-loop-j-preserved c =
-    (
-      omega arith,
-      omega arith,
-      c.read_piece.auto.buf ∙ c.loop-j.invariant.2,
-      c.read_piece.ensures ∙ rw (c.loop-j.invariant.3, c.get32.ensures) (turns_more _ _ _ c.loop-j.j c.loop-j.invariant.0),
-    )
+loop-j-preserved c = (
+  omega arith,
+  omega arith,
+  c.read_piece.auto.buf ∙ c.loop-j.invariant.2,
+  c.read_piece.ensures ∙ rw (c.loop-j.invariant.3, c.get32.ensures) (turns_more _ _ _ c.loop-j.j c.loop-j.invariant.0),
+)
 
 pub returns : goal.returns
 unfolding run_read

@@ -1,13 +1,9 @@
-use borrow.Author.Rules.{rules}
-use mathlib.Core.Path.{◌≡◌, refl, ◌∙◌}
-use native.Mathlib.Nat.{le_refl}
-use native.Mathlib.Omega.{arith}
+use mathlib.Core.Path.{◌≡◌}
 use Prim.Native.Nat.{◌≤◌, ◌*◌, ◌-◌, ◌+◌, max}
 use lib.ListN.{length}
 use Rattle.words.specs.Words.{word}
 use Rattle.words.specs.Runs.{turns}
-use Rattle.words.proofs.Runs.{turns_none, turns_more}
-use Rattle.file_blocks.specs.Bytes.{piece_read, run_read}
+use Rattle.file_blocks.specs.Bytes.{piece_read}
 use Rattle.file_read.proofs.read_run.Given as goal
 
 abbrev pub invariant-loop-j : goal.invariant-loop-j

@@ -2,7 +2,6 @@ use Prim.Native.Nat.{ℕ, ◌+◌, ◌*◌, ◌-◌}
 use mathlib.Core.Path.{◌∙◌}
 use Rattle.file_blocks.proofs.Picks.{both}
 use Rattle.file_blocks.specs.Taking.{free_run, free_direct}
-use borrow.Author.Rules.{rules}
 use Rattle.file_shrink.proofs.free_direct.Goals as goal
 
 pub returns : goal.returns

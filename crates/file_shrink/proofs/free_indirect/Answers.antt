@@ -1,7 +1,6 @@
 use mathlib.Core.Path.{sym, ◌∙◌}
 use native.Mathlib.Omega.{arith}
 use Rattle.file_shrink.proofs.Freeing.{free_indirect_past, free_indirect_short, free_indirect_over}
-use borrow.Author.Rules.{rules}
 use Rattle.file_shrink.proofs.free_indirect.Goals as goal
 
 pub returns-then-b-ge12 : goal.returns-then-b-ge12

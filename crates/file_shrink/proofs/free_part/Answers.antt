@@ -4,7 +4,6 @@ use native.Mathlib.Omega.{arith}
 use Rattle.file_blocks.proofs.Picks.{both}
 use Rattle.file_blocks.specs.Taking.{free_run}
 use Rattle.file_shrink.proofs.Freeing.{free_part_in, free_part_out}
-use borrow.Author.Rules.{rules}
 use Rattle.file_shrink.proofs.free_part.Goals as goal
 
 pub returns-then-s-nb : goal.returns-then-s-nb

@@ -1,11 +1,9 @@
-use Prim.Native.Nat.{ℕ, ◌+◌, ◌*◌, ◌-◌, ◌≤◌}
-use mathlib.Core.Path.{◌≡◌, refl, ap, ◌∙◌}
+use Prim.Native.Nat.{ℕ, ◌+◌, ◌*◌}
+use mathlib.Core.Path.{refl, ap, ◌∙◌}
 use mathlib.Core.List.{List}
 use native.Mathlib.Omega.{arith}
-use borrow.Author.Rules.{rules}
-use lib.ListN.{length}
 use Rattle.words.specs.Words.{word}
-use Rattle.file_blocks.specs.Taking.{freed_in, free_run}
+use Rattle.file_blocks.specs.Taking.{freed_in}
 use Rattle.file_shrink.proofs.Freeing.{free_run_none, free_run_more}
 use Rattle.file_shrink.proofs.free_run.Goals as goal
 

@@ -1,12 +1,7 @@
-use Prim.Native.Nat.{ℕ, ◌+◌, ◌*◌, ◌-◌, ◌≤◌}
-use mathlib.Core.Path.{◌≡◌, refl, ap, ◌∙◌}
-use mathlib.Core.List.{List}
-use native.Mathlib.Omega.{arith}
-use borrow.Author.Rules.{rules}
+use Prim.Native.Nat.{◌-◌, ◌≤◌}
+use mathlib.Core.Path.{◌≡◌}
 use lib.ListN.{length}
-use Rattle.words.specs.Words.{word}
-use Rattle.file_blocks.specs.Taking.{freed_in, free_run}
-use Rattle.file_shrink.proofs.Freeing.{free_run_none, free_run_more}
+use Rattle.file_blocks.specs.Taking.{free_run}
 use Rattle.file_shrink.proofs.free_run.Given as goal
 
 abbrev pub invariant-loop-j : goal.invariant-loop-j

@@ -4,7 +4,6 @@ use native.Mathlib.Omega.{arith}
 use Rattle.file_blocks.proofs.Picks.{both}
 use Rattle.file_blocks.specs.Taking.{free_run}
 use Rattle.file_shrink.proofs.Freeing.{free_single_in, free_single_out}
-use borrow.Author.Rules.{rules}
 use Rattle.file_shrink.proofs.free_single.Goals as goal
 
 pub returns-then-p-nb : goal.returns-then-p-nb

@@ -1,11 +1,9 @@
 use Rattle.file_shrink.proofs.Freeing.{frees_turn, twofold_free, free_twofold_in, free_twofold_out}
-use Prim.Native.Nat.{ℕ, ◌-◌, ◌≤◌}
+use Prim.Native.Nat.{ℕ, ◌-◌}
 use mathlib.Core.Path.{◌≡◌, sym, ◌∙◌, refl}
 use native.Mathlib.Omega.{arith}
-use borrow.Author.Rules.{rules}
 use Rattle.file_blocks.proofs.Picks.{both}
 use native.Mathlib.Nat.{le_refl}
-use lib.ListN.{length}
 use Rattle.words.specs.Runs.{turns}
 use Rattle.words.proofs.Runs.{turns_none}
 use Rattle.file_blocks.specs.Ranges.{parts_from, parts_to}

@@ -1,7 +1,6 @@
 use mathlib.Core.Path.{sym, ◌∙◌}
 use native.Mathlib.Omega.{arith}
 use Rattle.file_shrink.proofs.Freeing.{less_double_past, less_double_short, less_double_over}
-use borrow.Author.Rules.{rules}
 use Rattle.file_shrink.proofs.less_double.Goals as goal
 
 pub returns-then-b-ge1036 : goal.returns-then-b-ge1036

@@ -1,7 +1,6 @@
 use mathlib.Core.Path.{sym, ◌∙◌}
 use native.Mathlib.Omega.{arith}
 use Rattle.file_shrink.proofs.Freeing.{less_indirect_past, less_indirect_short, less_indirect_over}
-use borrow.Author.Rules.{rules}
 use Rattle.file_shrink.proofs.less_indirect.Goals as goal
 
 pub returns-then-b-ge12 : goal.returns-then-b-ge12

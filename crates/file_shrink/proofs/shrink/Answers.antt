@@ -1,5 +1,4 @@
 use Rattle.file_shrink.proofs.Freeing.{shrunk_steps}
-use borrow.Author.Rules.{rules}
 use Rattle.file_shrink.proofs.shrink.Goals as goal
 
 pub returns : goal.returns

@@ -1,14 +1,8 @@
-use Prim.Native.Nat.{ℕ, ◌+◌, ◌*◌, ◌≤◌, ◌<◌, ◌-◌}
-use mathlib.Core.Path.{◌≡◌, refl, sym, ap, ◌∙◌}
-use mathlib.Core.List.{List}
-use borrow.Author.Rules.{rules}
-use native.Mathlib.Omega.{arith}
+use Prim.Native.Nat.{◌≤◌, ◌-◌}
+use mathlib.Core.Path.{◌≡◌}
 use lib.ListN.{length}
 use Rattle.words.specs.Runs.{turns}
-use Rattle.words.proofs.Runs.{turns_none, turns_more}
-use Rattle.cache_order.specs.Slots.{slots_in}
-use Rattle.cache.specs.Effects.{sync_device, flushed}
-use Rattle.cache_order.proofs.Laws.{sound_device}
+use Rattle.cache.specs.Effects.{flushed}
 use Rattle.cache.proofs.blocks.flush_all.Given as goal
 
 abbrev pub invariant-loop-i : goal.invariant-loop-i

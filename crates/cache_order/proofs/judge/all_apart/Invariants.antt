@@ -1,12 +1,7 @@
 use Prim.Native.Nat.{ℕ, ◌≤◌, ◌<◌, ◌-◌}
-use mathlib.Core.Path.{◌≡◌, refl, ◌∙◌}
-use borrow.Author.Rules.{rules}
-use borrow.Author.Count.{below_more}
-use native.Mathlib.Omega.{arith}
-use lib.ListN.{length, length-set}
-use Rattle.words.proofs.Answers.{when-not-true, when_not_false}
+use mathlib.Core.Path.{◌≡◌}
+use lib.ListN.{length}
 use Rattle.cache_order.specs.Slots.{Alone, Marked}
-use Rattle.cache_order.proofs.Laws.{marked_none, marked_more}
 use Rattle.cache_order.proofs.judge.all_apart.Given as goal
 
 abbrev pub invariant-loop-j : goal.invariant-loop-j

@@ -1,8 +1,4 @@
 use Prim.Native.Nat.{ℕ, ◌≤◌, ◌<◌, ◌-◌}
-use borrow.Author.Rules.{rules}
-use borrow.Author.Count.{below_more}
-use native.Mathlib.Omega.{arith}
-use Rattle.words.proofs.Answers.{when-not-true, when_not_false}
 use Rattle.cache_order.specs.Slots.{Differ}
 use Rattle.cache_order.proofs.judge.alone.Given as goal
 

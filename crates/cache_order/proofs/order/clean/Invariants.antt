@@ -1,12 +1,9 @@
-use Prim.Native.Nat.{ℕ, ◌+◌, ◌*◌, ◌≤◌, ◌<◌, ◌-◌}
-use mathlib.Core.Path.{◌≡◌, refl, sym, ap, ◌∙◌}
-use borrow.Author.Rules.{rules}
-use native.Mathlib.Omega.{arith}
-use lib.ListN.{length, set, length-set}
+use Prim.Native.Nat.{◌*◌, ◌≤◌, ◌-◌}
+use mathlib.Core.Path.{◌≡◌}
+use lib.ListN.{length}
 use Rattle.words.specs.Runs.{puts}
-use Rattle.words.proofs.Runs.{puts_none, puts_more, byte-puts_off}
-use Rattle.cache_order.specs.Slots.{slots_in, status_at}
-use Rattle.cache_order.specs.Order.{sync_slots, clean_status}
+use Rattle.cache_order.specs.Slots.{status_at}
+use Rattle.cache_order.specs.Order.{clean_status}
 use Rattle.cache_order.proofs.order.clean.Given as goal
 
 abbrev pub invariant-loop-i : goal.invariant-loop-i

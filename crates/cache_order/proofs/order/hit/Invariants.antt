@@ -1,10 +1,7 @@
 use Rattle.cache_order.specs.Slots.{slots_in}
-use Prim.Native.Nat.{ℕ, ◌+◌, ◌≤◌, ◌<◌, ◌-◌}
-use mathlib.Core.Path.{◌≡◌, refl, sym, ap, ◌∙◌}
-use borrow.Author.Rules.{rules}
-use native.Mathlib.Omega.{arith}
+use Prim.Native.Nat.{◌≤◌, ◌-◌}
+use mathlib.Core.Path.{◌≡◌}
 use Rattle.cache_order.specs.Order.{first, holds, hit_of}
-use Rattle.cache_order.proofs.Laws.{first_here, first_next, first_end}
 use Rattle.cache_order.proofs.order.hit.Given as goal
 
 abbrev pub invariant-loop-i : goal.invariant-loop-i

@@ -1,12 +1,9 @@
-use Prim.Native.Nat.{ℕ, ◌+◌, ◌*◌, ◌≤◌, ◌<◌, ◌-◌}
-use mathlib.Core.Path.{◌≡◌, refl, sym, ap, ◌∙◌}
-use borrow.Author.Rules.{rules}
-use native.Mathlib.Omega.{arith}
-use lib.ListN.{length, set, length-set}
+use Prim.Native.Nat.{◌+◌, ◌*◌, ◌≤◌, ◌-◌}
+use mathlib.Core.Path.{◌≡◌}
+use lib.ListN.{length}
 use Rattle.words.specs.Runs.{puts}
-use Rattle.words.proofs.Runs.{puts_none, puts_more, byte-puts_off}
-use Rattle.cache_order.specs.Slots.{slots_in, place_at}
-use Rattle.cache_order.specs.Order.{pushed, place_after}
+use Rattle.cache_order.specs.Slots.{place_at}
+use Rattle.cache_order.specs.Order.{place_after}
 use Rattle.cache_order.proofs.order.push.Given as goal
 
 abbrev pub invariant-loop-j : goal.invariant-loop-j

@@ -1,7 +1,6 @@
 use mathlib.Core.Path.{sym}
 use native.Mathlib.Omega.{arith}
 use Rattle.file_requests.proofs.Answers.{owned_below, judged-long, judged-full, judged-fits}
-use borrow.Author.Rules.{rules}
 use Rattle.file_requests.proofs.requests.judge.Goals as goal
 
 pub returns-then-len-gt4294967295 : goal.returns-then-len-gt4294967295

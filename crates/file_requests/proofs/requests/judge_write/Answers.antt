@@ -2,7 +2,6 @@ use mathlib.Core.Path.{sym, ◌∙◌}
 use Prim.Native.Nat.{◌+◌}
 use native.Mathlib.Omega.{arith}
 use Rattle.file_requests.proofs.Answers.{judged-long, write-past, write-inside}
-use borrow.Author.Rules.{rules}
 use Rattle.file_requests.proofs.requests.judge_write.Goals as goal
 
 pub returns-then-off-gt4294967295 : goal.returns-then-off-gt4294967295

@@ -2,7 +2,6 @@ use mathlib.Core.Path.{sym, ap, ◌∙◌}
 use Rattle.file_requests.specs.Resizing.{new_zero}
 use native.Mathlib.Omega.{arith}
 use Rattle.file_requests.proofs.Changes.{reaching_in, reaching_past}
-use borrow.Author.Rules.{rules}
 use Rattle.file_requests.proofs.requests.reach.Goals as goal
 
 pub returns-then-end-h : goal.returns-then-end-h

@@ -1,6 +1,5 @@
 use mathlib.Core.Path.{sym, ◌∙◌}
 use Rattle.file_requests.proofs.Calls.{read_bad}
-use borrow.Author.Rules.{rules}
 use Rattle.file_requests.proofs.requests.read.Goals as goal
 
 pub returns-in-BadKind : goal.returns-in-BadKind

@@ -4,7 +4,6 @@ use native.Mathlib.Omega.{arith}
 use lib.ListN.{length}
 use Rattle.file_requests.specs.declared.Filed.TheVariants.{Count}
 use Rattle.file_requests.proofs.Calls.{read_good}
-use borrow.Author.Rules.{rules}
 use Rattle.file_requests.proofs.requests.read_file.Goals as goal
 
 pub returns : goal.returns

@@ -1,4 +1,5 @@
-use mathlib.Core.Path.{sym, ◌∙◌}
+use mathlib.Core.Path.{◌≡◌, sym, ◌∙◌}
+use Rattle.file_requests.specs.declared.Filed.TheVariants.{Done}
 use Rattle.file_requests.proofs.Answers.{judged-within, judged-countless, on-done, on-refused}
 use Rattle.file_requests.proofs.Calls.{resize_good}
 use borrow.Author.Rules.{rules}
@@ -9,22 +10,24 @@ returns-in_default c =
     let j = c.judge-r in
     let u = c.unused_blocks-u in
     let a = c.args in
+    let refused : j.result ≡ Done → ⊥ = search rules in
     resize_good a.nb a.image.now a.n.0 a.len a.h _ _ c.requires.2
     (rw (← u.ensures) j.ensures)
-    (rw (← u.ensures, ← j.ensures) (sym (on-refused j.result _ _ (rw j.ensures (judged-countless _ _ _)) c.in_default.not-Done)))
+    (rw (← u.ensures, ← j.ensures) (sym (on-refused j.result _ _ (rw j.ensures (judged-countless _ _ _)) refused)))
 
 pub overflow_cast-len : goal.overflow_cast-len
 overflow_cast-len c =
-    let l = judged-within _ _ _ (sym c.judge-r.ensures ∙ c.in-Done.is) in
+    let done : c.judge-r.result ≡ Done = search rules in
+    let l = judged-within _ _ _ (sym c.judge-r.ensures ∙ done) in
     search rules
 
 pub returns : goal.returns
 returns c =
     let r = c.record_with-d in
-    let t = c.in-Done in
     let j = c.judge-r in
     let u = c.unused_blocks-u in
     let a = c.args in
+    let done : j.result ≡ Done = search rules in
     resize_good a.nb a.image.now a.n.0 a.len a.h _ _ c.requires.2
     (rw (← u.ensures) j.ensures)
-    (rw (← u.ensures, ← j.ensures, ← r.ensures) (c.resize_to.ensures ∙ sym (on-done j.result _ _ t.is)))
+    (rw (← u.ensures, ← j.ensures, ← r.ensures) (c.resize_to.ensures ∙ sym (on-done j.result _ _ done)))

@@ -1,4 +1,4 @@
-use mathlib.Core.Path.{◌≡◌, sym, ◌∙◌}
+use mathlib.Core.Path.{sym, ◌∙◌}
 use Prim.Native.Nat.{◌≤◌}
 use Rattle.file_requests.proofs.Answers.{write-within, write-countless, on-done, on-refused}
 use Rattle.file_requests.proofs.Calls.{write_good}

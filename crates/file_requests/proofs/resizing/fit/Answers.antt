@@ -1,7 +1,6 @@
 use mathlib.Core.Path.{sym, ◌∙◌}
 use native.Mathlib.Omega.{arith}
 use Rattle.file_requests.proofs.Changes.{fitted_up, fitted_down, fitted_within}
-use borrow.Author.Rules.{rules}
 use Rattle.file_requests.proofs.resizing.fit.Goals as goal
 
 pub returns-then-a-b : goal.returns-then-a-b

@@ -1,5 +1,4 @@
 use Rattle.file_requests.proofs.Changes.{resized_by}
-use borrow.Author.Rules.{rules}
 use Rattle.file_requests.proofs.resizing.resize_to.Goals as goal
 
 pub returns : goal.returns

@@ -1,6 +1,4 @@
-use native.Mathlib.Omega.{arith}
 use Rattle.file_requests.proofs.Changes.{shorter_by}
-use borrow.Author.Rules.{rules}
 use Rattle.file_requests.proofs.resizing.shorten.Goals as goal
 
 pub returns : goal.returns

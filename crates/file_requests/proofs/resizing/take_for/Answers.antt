@@ -1,5 +1,4 @@
 use Rattle.file_requests.proofs.Changes.{lengthened_by}
-use borrow.Author.Rules.{rules}
 use Rattle.file_requests.proofs.resizing.take_for.Goals as goal
 
 pub returns : goal.returns

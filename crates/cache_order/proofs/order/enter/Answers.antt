@@ -1,0 +1,6 @@
+use Rattle.cache_order.specs.Order.{entered}
+use Rattle.cache_order.proofs.order.enter.Goals as goal
+
+pub returns : goal.returns
+unfolding entered
+returns c = cc

@@ -1,0 +1,6 @@
+use Rattle.cache_order.specs.Order.{fresh_slot}
+use Rattle.cache_order.proofs.order.fresh.Goals as goal
+
+pub returns : goal.returns
+unfolding fresh_slot
+returns c = cc

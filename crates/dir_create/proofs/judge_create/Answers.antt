@@ -1,0 +1,17 @@
+use mathlib.Core.Path.{sym, ◌∙◌}
+use native.Mathlib.Omega.{arith}
+use Rattle.card_layout.specs.Inode.{decoded}
+use Rattle.dir_answers.proofs.Ready.{readable_ready}
+use Rattle.dir_answers.proofs.Heads.{dir_good}
+use Rattle.dir_create.proofs.CreateLaws.{create_no_dir}
+use borrow.Author.Rules.{rules}
+use Rattle.dir_create.proofs.judge_create.Goals as goal
+
+pub dir_head-requires : goal.dir_head-requires
+dir_head-requires c =
+    omega (arith, (readable_ready c.args.image.now c.requires.0 c.args.p.0 c.requires.1).here)
+
+pub returns-in-BadKind : goal.returns-in-BadKind
+returns-in-BadKind c =
+    let a = c.args in
+    sym (create_no_dir a.nb a.image.now a.p.0 a.x.now a.kind (sym c.dir_head.ensures ∙ c.in-BadKind.is))

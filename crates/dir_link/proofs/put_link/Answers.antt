@@ -1,0 +1,7 @@
+use Rattle.dir_link.specs.Link.{linked}
+use borrow.Author.Rules.{rules}
+use Rattle.dir_link.proofs.put_link.Goals as goal
+
+pub returns : goal.returns
+unfolding linked
+returns c = rw (c.encode.ensures, c.set_nlinks.ensures, c.append_direntry.ensures, c.entry_of-f.ensures)

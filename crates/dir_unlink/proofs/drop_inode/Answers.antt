@@ -1,0 +1,7 @@
+use Rattle.dir_unlink.specs.Unlink.{dropped}
+use borrow.Author.Rules.{rules}
+use Rattle.dir_unlink.proofs.drop_inode.Goals as goal
+
+pub returns : goal.returns
+unfolding dropped
+returns c = rw (c.free_block.ensures, c.shrink.ensures, c.file_blocks-a.ensures)
