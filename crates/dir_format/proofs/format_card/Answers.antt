@@ -1,0 +1,14 @@
+use Rattle.dir_format.specs.Format.{formatted}
+use borrow.Author.Rules.{rules}
+use Rattle.dir_format.proofs.format_card.Goals as goal
+
+pub returns : goal.returns
+unfolding formatted
+returns c =
+    rw (
+      c.put_dots.ensures,
+      c.encode.ensures,
+      c.root_record-d.ensures,
+      c.put_map.ensures,
+      c.put_super.ensures,
+    )

@@ -1,0 +1,8 @@
+use Rattle.dir_format.specs.Format.{fresh_map}
+use borrow.Author.Rules.{rules}
+use Rattle.dir_format.proofs.put_map.Goals as goal
+
+pub returns : goal.returns
+unfolding fresh_map
+returns c =
+    rw (c.set_bits.ensures, c.zero.ensures, c.root_block-r.ensures.0, c.maps_for-m.ensures.0)

@@ -1,0 +1,8 @@
+use Rattle.card_layout.specs.Sizes.{first_after_map}
+use native.Mathlib.Omega.{arith}
+use borrow.Author.Rules.{rules}
+use Rattle.dir_format.proofs.root_block.Goals as goal
+
+pub returns : goal.returns
+unfolding first_after_map
+returns c = omega arith

@@ -1,0 +1,22 @@
+use mathlib.Core.Path.{◌≡◌, refl, ◌∙◌}
+use mathlib.Core.List.{List}
+use Prim.Native.Nat.{ℕ, ◌-◌, ◌≤◌}
+use native.Mathlib.Omega.{arith}
+use borrow.Author.Rules.{rules}
+use lib.ListN.{length}
+use Rattle.words.specs.Runs.{turns}
+use Rattle.words.proofs.Runs.{turns_none, turns_more}
+use Rattle.card_map.specs.Bits.{set_bit}
+use Rattle.dir_format.proofs.set_each.Goals as goal
+
+pub loop-b-init : goal.loop-b-init
+loop-b-init c = (omega arith, omega arith, refl, turns_none _ _ _)
+
+pub loop-b-preserved : goal.loop-b-preserved
+loop-b-preserved c =
+    let l = c.loop-b in (
+      omega arith,
+      omega arith,
+      omega arith,
+      c.set_bit.ensures ∙ rw l.invariant.3 (turns_more _ _ _ l.b l.invariant.0),
+    )

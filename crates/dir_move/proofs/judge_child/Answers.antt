@@ -1,0 +1,34 @@
+use mathlib.Core.Path.{sym, ◌∙◌}
+use native.Mathlib.Omega.{arith}
+use Rattle.card_layout.specs.Inode.{decoded}
+use Rattle.dir_answers.proofs.Ready.{sizes_whole, readable_ready}
+use Rattle.dir_answers.proofs.Heads.{head_small}
+use Rattle.dir_answers.proofs.Refused.{of_good, of_bad}
+use Rattle.dir_answers.proofs.Dirs.{dir_kind, entry_inside, named_reached}
+use borrow.Author.Rules.{rules}
+use Rattle.dir_move.proofs.judge_child.Goals as goal
+
+pub entry_number-c-requires : goal.entry_number-c-requires
+entry_number-c-requires c =
+    let a = c.args in
+    let p = c.requires in
+    (readable_ready a.image.now p.0 a.p.0 p.1, entry_inside a.image.now p.0 a.p.0 p.1 a.k p.4.1)
+
+pub decode-requires : goal.decode-requires
+decode-requires c =
+    let a = c.args in
+    let p = c.requires in
+    let n = named_reached a.image.now p.0 a.p.0 p.1 a.k p.4.1 p.4.0 _ c.entry_number-c.ensures in
+    omega (arith, (readable_ready a.image.now p.0 _ n).here)
+
+pub move_room-requires : goal.move_room-requires
+move_room-requires c =
+    let a = c.args in
+    let p = c.requires in
+    let z = sizes_whole a.image.now p.0 in (
+      p.0,
+      p.2,
+      dir_kind a.image.now a.t.0 a.h p.3.0 p.3.1,
+      omega (arith, z.few, z.long),
+      head_small a.image.now p.0 a.t.0 p.2 a.h p.3.0,
+    )

@@ -1,0 +1,14 @@
+use Rattle.dir_move.specs.Move.{moved_dir}
+use borrow.Author.Rules.{rules}
+use Rattle.dir_move.proofs.move_dir.Goals as goal
+
+pub returns : goal.returns
+unfolding moved_dir
+returns c =
+    rw (
+      c.put_up.ensures,
+      c.move_file.ensures,
+      c.set_nlinks-2.ensures,
+      c.set_nlinks.ensures,
+      c.less-l.ensures,
+    )

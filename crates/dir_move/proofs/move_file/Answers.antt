@@ -1,0 +1,7 @@
+use Rattle.dir_move.specs.Move.{moved_file}
+use borrow.Author.Rules.{rules}
+use Rattle.dir_move.proofs.move_file.Goals as goal
+
+pub returns : goal.returns
+unfolding moved_file
+returns c = rw (c.remove_direntry.ensures, c.append_direntry.ensures, c.entry_of-e.ensures)

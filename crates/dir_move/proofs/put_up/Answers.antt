@@ -1,0 +1,7 @@
+use Rattle.dir_move.specs.Move.{up_put}
+use borrow.Author.Rules.{rules}
+use Rattle.dir_move.proofs.put_up.Goals as goal
+
+pub returns : goal.returns
+unfolding up_put
+returns c = rw (c.fill_at.ensures, c.put32.ensures)
