@@ -4,8 +4,6 @@ use Prim.Native.Nat.{ℕ, ◌+◌, ◌*◌, ◌≤◌, ◌<◌}
 use mathlib.Core.Path.{◌≡◌, refl, sym, ap, ◌∙◌}
 use mathlib.Core.Bool.{Bool, true, false}
 use mathlib.Core.List.{List, [], ◌∷◌}
-use types.Run.{OneOf, miss}
-use denote.Enum.Declared.{tag_of}
 use native.Mathlib.Omega.{arith}
 use lib.Dec.{eqb}
 use lib.ListN.{length}
@@ -21,7 +19,6 @@ use Rattle.card_rules.specs.Whole.{Reached, Whole}
 use Rattle.card_rules.proofs.Owners.{inode_below}
 use Rattle.file_blocks.specs.Inner.{Sizes}
 use Rattle.dir_answers.specs.Answers.{of_head}
-use Rattle.check_walk.specs.contracts.Opened.{the_type as opened-type}
 use Rattle.check_walk.specs.declared.Counts.{Counts}
 use Rattle.check_walk.specs.declared.Opened.{Opened}
 use Rattle.check_walk.specs.declared.Opened.TheVariants.{Open, ScratchShort, WrongFs, Damaged, NoInode}
@@ -96,9 +93,9 @@ module _ {img : List ℕ} {a b nb : ℕ} (r : Ready img a b nb) where
 pub on_open : {A : Type 0} {o : Opened} (c : Counts) (x r : A) {y : A} → o ≡ Open c → y ≡ x → y ≡ if_open o x r
 on_open c x r e p = rw e p
 
--- the tag is that of a refusal
-pub on_shut : {A : Type 0} (o : Opened) (x r : A) {y : A} → OneOf (1 ∷ 2 ∷ 3 ∷ 4 ∷ []) (tag_of opened-type o) → y ≡ r → y ≡ if_open o x r
-on_shut (Open c) x r t p = absurd (miss (1 ∷ 2 ∷ 3 ∷ 4 ∷ []) 0 tt t)
+-- the answer is a refusal
+pub on_shut : {A : Type 0} (o : Opened) (x r : A) {y : A} → ((c : Counts) → o ≡ Open c → ⊥) → y ≡ r → y ≡ if_open o x r
+on_shut (Open c) x r t p = absurd (t c refl)
 on_shut ScratchShort x r t p = p
 on_shut WrongFs x r t p = p
 on_shut Damaged x r t p = p
