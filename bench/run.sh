@@ -2,7 +2,7 @@
 # What the library's calls cost beside plain ones in Rust and beside the unchanged Rust: one table, which also goes into
 # docs/PERFORMANCE.md where instructions of the library were counted, or times taken on an x86-64 machine.
 #
-#   run.sh               for x86-64, with the archive that `rt staticlib sfs` makes (SFS_LIB: another one)
+#   run.sh               for x86-64, with the archive that `make` leaves (SFS_LIB: another one)
 #   run.sh --stand-in    with the plain ones themselves in the archive's place: the ratios are then near 1
 #   run.sh --host        the stand-in, by the rustc of PATH, for this machine
 #   run.sh --time        times, and no count of instructions

@@ -1,13 +1,15 @@
 #!/usr/bin/env bash
-# Runs a proved program of target/bin as `rt` does: under the kit's loader and C library, and its emulator where it has one.
+# Runs a proved program that `rt ci`, or `rt run` in its crate, has made; on other machines than x86-64 by the emulator, under the kit's loader and C library.
 #   tests/program.sh NAME [WORDS..]
 set -euo pipefail
 root=$(cd "$(dirname "${BASH_SOURCE[0]}")/.." && pwd)
-kit=${RATTLE_HOME:-$(dirname "$(dirname "$(readlink -f "$(command -v rt)")")")}
-tools=$kit/on/$(uname -m)/toolchain
-[ -d "$tools" ] || tools=$kit/toolchain
 name=$1
 shift
-emulator=("$tools/bin/qemu-x86_64")
-[ -x "${emulator[0]}" ] || emulator=()
-exec "${emulator[@]}" "$tools/lib/ld-linux-x86-64.so.2" --library-path "$tools/lib" "$root/target/bin/$name" "$@"
+program=$root/crates/$name/out/$name
+if [ ! -x "$program" ]; then
+    echo "program.sh: there is no $program: \`rt ci\` here, or \`rt run\` in crates/$name, makes it" >&2
+    exit 2
+fi
+[ "$(uname -m)" != x86_64 ] || exec "$program" "$@"
+tools=$(dirname "$(dirname "$(readlink -f "$(command -v rt)")")")/toolchain
+exec qemu-x86_64 "$tools/lib/ld-linux-x86-64.so.2" --library-path "$tools/lib" "$program" "$@"

@@ -54,7 +54,7 @@ fi
 if has check || has files || has calls || has dirs || has cache || has cli; then
     began=$SECONDS
     if ! make_archive; then
-        echo "outside: FAILED: rt staticlib sfs"
+        echo "outside: FAILED: the archive is not made"
         failed=1
     fi
     echo "archive $((SECONDS - began))" >>"$times"

@@ -75,10 +75,10 @@ need_outside_tools() {
     RUN="qemu-x86_64 -cpu max,-erms"
 }
 
-# What the archive hangs on, and the archive: the crates that sfs reaches (a crate is listed after those that it uses), and the kit.
+# What the archive hangs on, and the archive: the crates that sfs_c reaches (a crate is listed after those that it uses), and the kit.
 archive_state() {
     local reached
-    reached=$(tac "$root/crates.txt" | awk -F: 'BEGIN { wanted["sfs"] = 1 }
+    reached=$(tac "$root/crates.txt" | sed 's/ staticlib:/:/' | awk -F: 'BEGIN { wanted["sfs_c"] = 1 }
         $1 in wanted { print $1; n = split($2, uses, " "); for (i = 1; i <= n; i++) wanted[uses[i]] = 1 }')
     (
         cd "$root" && rt version
@@ -94,9 +94,9 @@ archive_made() {
 }
 
 # What proving the library and making its archive takes from nothing.
-archive_takes="five to ten minutes on two processors, and less where most of it is proved already"
+archive_takes="ARCHIVE_TAKES from nothing, and less where most of it is proved already"
 
-# make_archive: target/staticlib/libsfs.a, of what was proved. Passes on what rt says of each crate; all of it is in
+# make_archive: target/staticlib/libsfs.a, of what was proved. Names each crate once rt has checked it; all that rt says is in
 # target/staticlib/log. Where nothing has changed since it was made, nothing is said and done.
 make_archive() {
     local made=$root/target/staticlib
@@ -104,13 +104,14 @@ make_archive() {
     mkdir -p "$made"
     rm -f "$made/state"
     echo "Proving the library's crates; each is named when it is done."
-    # rt staticlib proves one crate after the other, rt check as many at once as there are processors.
-    (cd "$root" && rt check sfs && echo "rt: making the archive .." && rt staticlib sfs) 2>&1 | tee "$made/log" |
-        grep --line-buffered '^rt: ' | grep --line-buffered -v 'unchanged since it was last proved'
+    # rt has checked a crate, and says so in a line, before it says whether it is proved.
+    (cd "$root/crates/sfs_c" && rt lib) 2>&1 | tee "$made/log" |
+        awk '/^crate [a-z_]+:/ { sub(":", "", $2); name = $2 } /^logic=/ { split($1, said, "="); print name " " said[2]; fflush() }'
     if [ "${PIPESTATUS[0]}" -ne 0 ]; then
         tail -n 20 "$made/log"
         return 1
     fi
+    cp "$root/crates/sfs_c/out/libsfs_c.a" "$made/libsfs.a"
     archive_state >"$made/state"
 }
 
@@ -173,7 +174,7 @@ take_archive() {
         return
     fi
     if [ ! -f "$archive" ]; then
-        echo "${here##*/}: there is no archive $archive; \`rt staticlib sfs\` makes it" >&2
+        echo "${here##*/}: there is no archive $archive; \`make\` makes it" >&2
         return 1
     fi
     cp "$archive" "$out/lib/libsfs.a"

@@ -1,4 +1,4 @@
-//! Links `libsfs.a`: the archive that `SFS_LIB` names, or the one that `rt staticlib sfs` makes in this repository.
+//! Links `libsfs.a`: the archive that `SFS_LIB` names, or the one that `rt lib` makes in this repository, of crates/sfs_c.
 use std::env;
 use std::path::{Path, PathBuf};
 use std::process::Command;
@@ -37,15 +37,29 @@ fn made_here() -> PathBuf {
         "`rt` makes libsfs.a for x86-64 only, and this is a build for {target}: `make` at the repository's root builds for x86-64 here"
     );
     let root = Path::new(&env::var("CARGO_MANIFEST_DIR").expect("cargo runs this")).join("../..");
-    println!("cargo:rerun-if-changed={}", root.join("crates").display());
     println!("cargo:rerun-if-changed={}", root.join("crates.txt").display());
-    let done = Command::new("rt")
-        .args(["staticlib", "sfs"])
-        .current_dir(&root)
-        .status();
+    for part in parts_of_crates(&root.join("crates")) {
+        println!("cargo:rerun-if-changed={}", part.display());
+    }
+    let crate_for_c = root.join("crates/sfs_c");
+    let done = Command::new("rt").arg("lib").current_dir(&crate_for_c).status();
     match done {
-        Ok(status) if status.success() => root.join("target/staticlib/libsfs.a"),
-        Ok(status) => panic!("`rt staticlib sfs` ended with {status}"),
+        Ok(status) if status.success() => crate_for_c.join("out/libsfs_c.a"),
+        Ok(status) => panic!("`rt lib` in crates/sfs_c ended with {status}"),
         Err(e) => panic!("`rt` cannot be run ({e}): install the Rattle kit, or set SFS_LIB to libsfs.a"),
     }
+}
+
+/// What `rt` reads of each crate. What it leaves there, in `out`, changes whenever it runs.
+fn parts_of_crates(crates: &Path) -> Vec<PathBuf> {
+    let mut parts = Vec::new();
+    for entry in crates.read_dir().into_iter().flatten().flatten() {
+        for part in ["src", "specs", "proofs"] {
+            let path = entry.path().join(part);
+            if path.is_dir() {
+                parts.push(path);
+            }
+        }
+    }
+    parts
 }

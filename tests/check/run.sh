@@ -1,7 +1,7 @@
 #!/usr/bin/env bash
 # The library's check beside RULES, "When a card is whole": made and damaged cards, hostile ones, and the examples.
 #
-#   run.sh               for x86-64, by the tools of tests/tools.sh, with the archive that `rt staticlib sfs` makes
+#   run.sh               for x86-64, by the tools of tests/tools.sh, with the archive that `make` leaves
 #   run.sh --stand-in    with the plain Rust of tests/standin in the archive's place, to try the tests themselves
 #   run.sh --host        with the stand-in, by the rustc of PATH, for this machine
 #

@@ -9,7 +9,7 @@ release=$root/target/release
 rm -rf "$release"
 mkdir -p "$root/target"
 echo "The promises are proved first, with every crate that they are about."
-if ! (cd "$root" && rt check promises) >"$root/target/release.log" 2>&1; then
+if ! (cd "$root/crates/promises" && rt check) >"$root/target/release.log" 2>&1; then
     grep -E '^rt: |error' "$root/target/release.log" | tail -n 20
     echo "release: the promises are not proved; nothing is handed out" >&2
     exit 1
@@ -22,7 +22,7 @@ if [ "$how" = cargo ]; then cp "$sfs" "$release/sfs"; else cp "$out/sfs.x86_64" 
 {
     echo "Proved before this was handed out, by rt $(cd "$root" && rt version | head -n 1):"
     # A theorem of promises/proofs has the name of its statement as its type.
-    sed -nE 's/^pub [a-z-]+ : ([A-Z][A-Za-z0-9]*)$/  \1/p' "$root"/crates/promises/proofs/*.antt
+    sed -nE 's/^pub [a-z_-]+ : ([A-Z][A-Za-z0-9]*)$/  \1/p' "$root"/crates/promises/proofs/*.antt
     echo "The statements are in crates/promises/specs, what they rest on is listed in docs/BELIEVED.md."
     (cd "$release" && sha256sum libsfs.a sfs.h sfs)
 } >"$release/PROVED"

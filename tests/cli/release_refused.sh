@@ -34,7 +34,7 @@ touch "$release/libsfs.a"
 got=0
 PATH=$work:$PATH "$here/release.sh" >"$work/out" 2>&1 || got=$?
 [ "$got" = 1 ] || fail "make release: status $got, not 1: $(cat "$work/out")"
-grep -qF 'rt: check promises: error: not proved' "$work/out" || fail "make release did not say what rt said: $(cat "$work/out")"
+grep -qF 'rt: check: error: not proved' "$work/out" || fail "make release did not say what rt said: $(cat "$work/out")"
 grep -qF 'the promises are not proved; nothing is handed out' "$work/out" || fail "make release did not say why: $(cat "$work/out")"
 [ ! -e "$release" ] || fail "the promises were not proved, and there is $release"
 echo "where the promises are not proved nothing is handed out"

@@ -1,7 +1,7 @@
 #!/usr/bin/env bash
 # The tests of the crate and of the command sfs.
 #
-#   run.sh               for x86-64, with the archive that `rt staticlib sfs` makes (SFS_LIB: another one)
+#   run.sh               for x86-64, with the archive that `make` leaves (SFS_LIB: another one)
 #   run.sh --stand-in    with plain Rust in the archive's place, to try the tests themselves
 #   run.sh --host        with the stand-in, by the cargo of PATH, for this machine
 # shellcheck disable=SC2317

@@ -6,13 +6,13 @@ set -euo pipefail
 root=$(cd "$(dirname "${BASH_SOURCE[0]}")/../.." && pwd)
 cd "$root/crates"
 
-# uses FILE: what its `use` lines name in this project, as CRATE TREE PATH
+# uses FILE: what its `use` lines name, as CRATE TREE PATH
 uses() {
-    sed -nE 's/^use Rattle·([a-z_]+)(·specs|·proofs)?\.(specs|proofs)\.([A-Za-z0-9_.-]+)( as .*|\.?\{.*)?$/\1 \3 \4/p' "$1"
+    sed -nE 's/^(pub )?use Rattle\.([a-z_]+)\.(specs|proofs)\.([A-Za-z0-9_.-]+)( as .*|\.?\{.*)?$/\2 \3 \4/p' "$1"
 }
 
 lines() {
-    awk '/^use /{ open = !/\}/ && /\{/; next } open { if (/\}/) open = 0; next } /^ *--/ || /^ *$/ { next } { n++ } END { print n + 0 }' "$1"
+    awk '/^(pub )?use /{ open = !/\}/ && /\{/; next } open { if (/\}/) open = 0; next } /^ *--/ || /^ *$/ { next } { n++ } END { print n + 0 }' "$1"
 }
 
 declare -A seen types
@@ -24,10 +24,12 @@ while [ ${#todo[@]} -gt 0 ]; do
     if [ -n "${seen[$file]:-}" ] || [ "${file##*/}" = Lib.antt ]; then continue; fi
     seen[$file]=yes
     while read -r crate tree path; do
+        # What is the library's own stands in no crate here.
+        [ -d "$crate" ] || continue
         path=${path%.}
         case $tree/$path in
         specs/declared.*)
-            path=${path%.the-variants}
+            path=${path%.TheVariants}
             types["$crate ${path##*.}"]=yes
             ;;
         specs/Inner*)

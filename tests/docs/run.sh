@@ -51,8 +51,8 @@ done < <(sed -n '/^## The three demands/,$p' "$root/docs/RULES.md" | tr '\n' ' '
 words=$(mktemp)
 trap 'rm -f "$words"' EXIT
 {
-    find . \( -name '*.antt' -o -name '*.rt' \) -print0 | xargs -0 cat | grep -oE "[A-Za-z][A-Za-z0-9_-]*"
-    find . -name '*.edit' -printf '%f\n' | sed 's/\.edit$//'
+    find . -name out -prune -o \( -name '*.antt' -o -name '*.rt' \) -print0 | xargs -0 cat | grep -oE "[A-Za-z][A-Za-z0-9_-]*"
+    find . -name out -prune -o -name '*.edit' -printf '%f\n' | sed 's/\.edit$//'
     printf '%s\n' ac lem check files dirs calls replay cli
 } | LC_ALL=C sort -u >"$words"
 while IFS= read -r name; do

@@ -2,7 +2,7 @@
 # The recording that the program `replay` runs, made again by the unchanged Rust and compared byte for byte; then replay is run on
 # recordings with one wrong byte, each of which it must notice.
 #
-#   run.sh            for x86-64, by the tools of tests/tools.sh; target/bin/replay is what `rt check` makes
+#   run.sh            for x86-64, by the tools of tests/tools.sh; the program is what `rt ci` made
 #   run.sh --host     only the comparison, by the rustc of PATH, for this machine
 #   run.sh --record   writes crates/replay/stdin and stdout anew (with --host or without)
 set -euo pipefail

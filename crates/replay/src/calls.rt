@@ -1,6 +1,6 @@
 // The calls of a recording, put to the library. x is the first name, or the bytes to be written or read; y is the second name.
 use crate::frame::{Frame, Got};
-use crate::made;
+use crate::{input, made};
 use call_dirs;
 use call_files;
 use call_looks;
@@ -8,6 +8,8 @@ use call_said;
 use call_said::Said;
 use card_layout::INodeId;
 use sfs::c_looks;
+use std::io;
+use std::io::Read;
 
 pub const FORMAT: u32 = 3;
 
@@ -104,8 +106,7 @@ fn short(n: usize) -> u32 {
     (n % 65536) as u32
 }
 
-fn find(image: &[u8], scratch: &mut [u32], p: u32, x: &mut [u8]) -> Got {
-    io::read_full(0, x);
+fn find(image: &[u8], scratch: &mut [u32], p: u32, x: &[u8]) -> Got {
     let r = call_looks::find(image, scratch, INodeId(p), x);
     told(r, 0)
 }
@@ -122,29 +123,37 @@ fn write(f: Frame, image: &mut [u8], scratch: &mut [u32], x: &mut [u8]) -> Got {
     told(r, 0)
 }
 
-fn create(f: Frame, image: &mut [u8], scratch: &mut [u32], x: &mut [u8]) -> Got {
-    io::read_full(0, x);
+fn create(f: Frame, image: &mut [u8], scratch: &mut [u32], x: &[u8]) -> Got {
     let r = call_dirs::create(image, scratch, INodeId(f.inode), x, f.other);
     told(r, 0)
 }
 
-fn link(f: Frame, image: &mut [u8], scratch: &mut [u32], x: &mut [u8]) -> Got {
-    io::read_full(0, x);
+fn link(f: Frame, image: &mut [u8], scratch: &mut [u32], x: &[u8]) -> Got {
     let r = call_dirs::link(image, scratch, INodeId(f.inode), x, INodeId(f.other));
     told(r, 0)
 }
 
-fn unlink(f: Frame, image: &mut [u8], scratch: &mut [u32], x: &mut [u8]) -> Got {
-    io::read_full(0, x);
+fn unlink(f: Frame, image: &mut [u8], scratch: &mut [u32], x: &[u8]) -> Got {
     let r = call_dirs::unlink(image, scratch, INodeId(f.inode), x);
     told(r, 0)
 }
 
-fn move_(f: Frame, image: &mut [u8], scratch: &mut [u32], x: &mut [u8], y: &mut [u8]) -> Got {
-    io::read_full(0, x);
-    io::read_full(0, y);
+fn move_(f: Frame, image: &mut [u8], scratch: &mut [u32], x: &[u8], y: &[u8]) -> Got {
     let r = call_dirs::move_(image, scratch, INodeId(f.inode), x, INodeId(f.other), y);
     told(r, 0)
+}
+
+// The names that follow a call in the recording. What is not there any more stays as it was.
+pub fn read_names(from: &mut impl Read, f: Frame, x: &mut [u8], y: &mut [u8]) -> io::Result<()> {
+    let op = f.op;
+    match op {
+        FIND | CREATE | LINK | UNLINK | MOVE => input::read_full(from, x)?,
+        _ => 0,
+    };
+    if op == MOVE {
+        input::read_full(from, y)?;
+    }
+    Ok(())
 }
 
 // The calls that leave the card.
@@ -160,7 +169,7 @@ fn look(f: Frame, image: &[u8], scratch: &mut [u32], x: &mut [u8]) -> Got {
     }
 }
 
-pub fn put(f: Frame, image: &mut [u8], scratch: &mut [u32], x: &mut [u8], y: &mut [u8]) -> Got {
+pub fn put(f: Frame, image: &mut [u8], scratch: &mut [u32], x: &mut [u8], y: &[u8]) -> Got {
     let op = f.op;
     match op {
         FORMAT => told(call_dirs::format(image, f.at), 0),

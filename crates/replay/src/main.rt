@@ -5,10 +5,13 @@
 ghost use Rattle.std.specs.Prelude.{◌≡◌, length};
 
 use crate::frame::Frame;
+use std::io;
+use std::io::Read;
 use words::order;
 
 mod calls;
 mod frame;
+mod input;
 mod made;
 
 // The two steps that are no calls: a new card, and bytes for it.
@@ -45,25 +48,34 @@ fn start(image: &mut [u8], seed: u32) {
 
 // No recording has 2^64 steps.
 fn more(n: u64) -> u64 {
-    std::num::wrapping_add_u64(n, 1)
+    n.wrapping_add(1)
 }
 
 // As many bytes of the recording as are asked for and fit go to the card.
-fn put_bytes(image: &mut [u8], at: u64, long: usize) {
+fn put_bytes(from: &mut impl Read, image: &mut [u8], at: u64, long: usize) -> io::Result<()> {
     let a = order::least(at as usize, image.len());
     let n = order::least(long, image.len() - a);
     let e = a + n;
-    io::read_full(0, &mut image[a..e]);
+    input::read_full(from, &mut image[a..e])?;
+    Ok(())
 }
 
 // Puts a call to the library, and answers whether it agrees.
-fn agrees(f: Frame, image: &mut [u8], scratch: &mut [u32], x: &mut [u8], y: &mut [u8]) -> bool {
+fn agrees(
+    from: &mut impl Read,
+    f: Frame,
+    image: &mut [u8],
+    scratch: &mut [u32],
+    x: &mut [u8],
+    y: &mut [u8],
+) -> io::Result<bool> {
+    calls::read_names(from, f, x, y)?;
     let got = calls::put(f, image, scratch, x, y);
     let want = f.want;
     if !frame::same(want, got) {
-        return false;
+        return Ok(false);
     }
-    made::sum(image) == f.image
+    Ok(made::sum(image) == f.image)
 }
 
 fn new_card(mut t: Tally, f: Frame, image: &mut [u8]) -> Tally {
@@ -75,51 +87,66 @@ fn new_card(mut t: Tally, f: Frame, image: &mut [u8]) -> Tally {
 }
 
 fn one_call(
+    from: &mut impl Read,
     mut t: Tally,
     f: Frame,
     image: &mut [u8],
     scratch: &mut [u32],
     x: &mut [u8],
     y: &mut [u8],
-) -> Tally {
+) -> io::Result<Tally> {
     let n = order::least(t.len, image.len());
     let w = order::least(f.scratch, scratch.len());
     let j = order::least(f.long, x.len());
     let k = order::least(f.more, y.len());
     t.calls = more(t.calls);
     if agrees(
+        from,
         f,
         &mut image[0..n],
         &mut scratch[0..w],
         &mut x[0..j],
         &mut y[0..k],
-    ) {
+    )? {
         t.agree = more(t.agree);
     }
-    t
+    Ok(t)
 }
 
 // One step of the recording.
-fn step(mut t: Tally, image: &mut [u8], scratch: &mut [u32], x: &mut [u8], y: &mut [u8]) -> Tally {
+fn step(
+    from: &mut impl Read,
+    mut t: Tally,
+    image: &mut [u8],
+    scratch: &mut [u32],
+    x: &mut [u8],
+    y: &mut [u8],
+) -> io::Result<Tally> {
     let mut head = [0u8; 64];
-    let n = io::read_full(0, &mut head);
+    let n = input::read_full(from, &mut head)?;
     if n < 64 {
         t.goes = false;
-        return t;
+        return Ok(t);
     }
     let f = frame::read(&head);
     if f.op == CARD {
-        return new_card(t, f, image);
+        return Ok(new_card(t, f, image));
     }
     if f.op == BYTES {
-        put_bytes(image, f.at, f.long);
-        return t;
+        put_bytes(from, image, f.at, f.long)?;
+        return Ok(t);
     }
-    one_call(t, f, image, scratch, x, y)
+    one_call(from, t, f, image, scratch, x, y)
 }
 
 // A proved loop has to end, so it counts its turns down, from a number that no recording uses up.
-fn play(image: &mut [u8], scratch: &mut [u32], x: &mut [u8], y: &mut [u8]) -> Tally {
+fn play(
+    from: &mut impl Read,
+    image: &mut [u8],
+    scratch: &mut [u32],
+    x: &mut [u8],
+    y: &mut [u8],
+) -> io::Result<Tally> {
     let mut t = Tally {
         goes: true,
         len: 0,
@@ -129,23 +156,17 @@ fn play(image: &mut [u8], scratch: &mut [u32], x: &mut [u8], y: &mut [u8]) -> Ta
     };
     let mut turns = u64::MAX;
     while turns > 0 && t.goes {
-        t = step(t, image, scratch, x, y);
+        t = step(from, t, image, scratch, x, y)?;
         turns -= 1;
     }
-    t
+    Ok(t)
 }
 
-fn main() {
+fn main(rt: HostRuntime) -> io::Result<()> {
     let mut image = room();
     let mut scratch = [0u32; 260];
-    let mut x = io::large_buffer();
-    let mut y = io::buffer();
-    let t = play(&mut image, &mut scratch, &mut x, &mut y);
-    io::write_all(1, b"cards ");
-    io::print_decimal(1, t.cards);
-    io::write_all(1, b" calls ");
-    io::print_decimal(1, t.calls);
-    io::write_all(1, b" agree ");
-    io::print_decimal(1, t.agree);
-    io::write_all(1, b"\n");
+    let mut x = [0u8; 65536];
+    let mut y = [0u8; 4096];
+    let t = play(&mut rt.reader(), &mut image, &mut scratch, &mut x, &mut y)?;
+    println!(rt; "cards {} calls {} agree {}", t.cards, t.calls, t.agree)
 }
