@@ -1,7 +1,7 @@
 use native.Mathlib.Omega.{arith}
 use mathlib.Core.Path.{◌≡◌, refl, ap, sym, ◌∙◌, subst}
 use mathlib.Core.List.{List}
-use Prim.Native.Nat.{ℕ, ◌+◌}
+use Prim.Native.Nat.{ℕ, ◌+◌, ◌≤◌}
 use lib.ListN.{length}
 use Rattle.words.proofs.Answers.{when_not_false}
 use Rattle.card_rules.specs.View.{name}
@@ -29,7 +29,7 @@ loop-j-preserved c =
     let alone : Alone img n a.lo l.k (name img n l.j) =
     when_not_false c.alone.result _ _ c.if-not-alone.false-raw c.alone.ensures in
     let low = c.if-s-lt1.false in
-    let high = c.if-s-gt255.false in
+    let high : s.result.len ≤ 255 = omega arith in
     let fits = name_fits img n l.j (omega (arith, s.ensures.0)) (omega (arith, s.ensures.0)) in
     let more = window_more img n a.lo a.m l.k l.j l.invariant.1 l.invariant.3 l.invariant.5 fits alone in
     elim c.if-k-m.branch [
