@@ -1,6 +1,6 @@
 // The calls of a recording, put to the library. x is the first name, or the bytes to be written or read; y is the second name.
 use crate::frame::{Frame, Got};
-use crate::{input, made};
+use crate::made;
 use call_dirs;
 use call_files;
 use call_looks;

@@ -1,4 +1,6 @@
-// Reading what a recording has.
+// Reading for the programs.
+#![tactic(auto)]
+
 ghost use Rattle.std.specs.Prelude.{◌≤◌, length, IfOk};
 
 use std::io;
