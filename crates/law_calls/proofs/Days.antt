@@ -30,6 +30,14 @@ module _ {start : List ℕ} (w : Whole start) (bytes : Bytes start) where
         → Since w.inodes start mid
     day_since o (filed c) f long =
         since_step w.sound z (call_step z.sound z.tree z.bytes o c).taken (λ n h. long n (w.tree.only n h))
+    day_since {r = r} o (create s _ p _ k _ _) f long = elim f [ ]
+    day_since {r = r} o (link s _ p _ c _ _) f long = elim f [ ]
+    day_since {r = r} o (unlink s _ p _ _ _) f long = elim f [ ]
+    day_since {r = r} o (move s _ p old t new _ _) f long = elim f [ ]
+    day_since {r = r} o (find s _ p _ _ _ _) f long = elim f [ ]
+    day_since {r = r} o (list s _ p k _ e _ _) f long = elim f [ ]
+    day_since {r = r} o (describe s _ n _ _ _ _ _ _ _) f long = elim f [ ]
+    day_since {r = r} o (check s _ _ _ _ _ _) f long = elim f [ ]
 
     day_byte : {q : Asked} {r : Said} → OfBytesAll q → Made img mid q r → OnFile q → ((n : ℕ) → Reached start n → size start n ≤ size mid n)
         → (n o : ℕ) → Reached start n → o < size start n → file_byte mid n o ≡ put q r n o (file_byte img n o)
@@ -37,6 +45,14 @@ module _ {start : List ℕ} (w : Whole start) (bytes : Bytes start) where
         let y = call_step z.sound z.tree z.bytes a c in
         let i = reached_listed start w n h in
         y.taken.byte_is n o i (omega (arith, z.sizes n i)) (omega (arith, long n h)) ∙ y.puts n o (file_byte img n o)
+    day_byte {r = r} a (create s _ p _ _ _ _) f long n o h k = elim f [ ]
+    day_byte {r = r} a (link s _ p _ c _ _) f long n o h k = elim f [ ]
+    day_byte {r = r} a (unlink s _ p _ _ _) f long n o h k = elim f [ ]
+    day_byte {r = r} a (move s _ p old t new _ _) f long n o h k = elim f [ ]
+    day_byte {r = r} a (find s _ p _ _ _ _) f long n o h k = elim f [ ]
+    day_byte {r = r} a (list s _ p _ _ e _ _) f long n o h k = elim f [ ]
+    day_byte {r = r} a (describe s _ _ _ _ _ _ _ _ _) f long n o h k = elim f [ ]
+    day_byte {r = r} a (check s _ _ _ _ _ _) f long n o h k = elim f [ ]
 
   run_since : {img out : List ℕ} {cs : List Call} → Since w.inodes start img → Run (OfDay start) img out cs → Since w.inodes start out
   run_since z none = z

@@ -84,7 +84,7 @@ same_path img out cs xs m w b h r = (
     off i j c p z d x o = p.unasked d x o z
 
 -- the file is long enough still
-still : {img out : List ℕ} {cs : List Call} (m o : ℕ) → o < size img m → Run (Lasts m o) img out cs → o < size out m
+still : (m o : ℕ) {img out : List ℕ} {cs : List Call} → o < size img m → Run (Lasts m o) img out cs → o < size out m
 still m o l none = l
 still m o l (next a c p r) = still m o p.long r
 
