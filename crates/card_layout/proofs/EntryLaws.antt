@@ -1,17 +1,16 @@
 -- The laws of a stored entry: its number and name are read back, and every byte after the name is zero. Assumes nothing.
 use Prim.Native.Nat.{ℕ, ◌+◌, ◌^◌, ◌<◌, ◌≤◌}
-use mathlib.Core.Path.{◌≡◌, refl, sym, ap, ◌∙◌}
+use mathlib.Core.Path.{◌≡◌, ap, ◌∙◌}
 use mathlib.Core.List.{List}
 use native.Mathlib.Omega.{arith}
 use borrow.Author.Tests.{eq-eqb, lt-ltb}
 use lib.ListN.{length, drop, replicate, length-drop, length-replicate, get_or-replicate}
 use lib.Seq.{get_or-drop}
-use Rattle.words.specs.Words.{byte, num, put_word, Bytes}
-use Rattle.words.specs.Runs.{copied}
+use Rattle.words.specs.Words.{byte, put_word}
 use Rattle.words.proofs.Numbers.{length-put, num_frame, num_same, byte_out}
 use Rattle.words.proofs.Runs.{length-copied, byte-copied_off, byte-copied_in}
 use Rattle.card_layout.specs.Entry.{upto_nul, name_in, number_in, Name, entry_of}
-use Rattle.card_layout.proofs.Names.{upto_is, upto_le, upto_no_nul}
+use Rattle.card_layout.proofs.Names.{upto_is}
 
 -- the entry before its name is stored
 bare : ℕ → List ℕ

@@ -1,15 +1,14 @@
 -- The laws of the inode record: each field is there after encoding, decoding and encoding are inverse, and encoding touches its own 80 bytes alone.
 -- Assumes nothing.
-use Prim.Native.Nat.{ℕ, zero, suc, ◌+◌, ◌*◌, ◌^◌, ◌<◌, ◌≤◌}
+use Prim.Native.Nat.{ℕ, ◌+◌, ◌*◌, ◌^◌, ◌<◌, ◌≤◌}
 use mathlib.Core.Path.{◌≡◌, refl, sym, ap, ◌∙◌}
-use mathlib.Core.Bool.{Bool, true, false}
-use mathlib.Core.List.{List, [], ◌∷◌}
-use mathlib.Core.Logic.{◌⊎◌, inl, inr, ⊎_elim}
+use mathlib.Core.List.{List}
+use mathlib.Core.Logic.{⊎_elim}
 use native.Mathlib.Omega.{arith}
 use lib.Dec.{T, leb, leb→le}
-use lib.ListN.{length, get_or, set, replicate, get_or-replicate, get_or-eq_default}
+use lib.ListN.{length, replicate, get_or-replicate, get_or-eq_default}
 use native.Mathlib.Decide.{dec_lt}
-use Rattle.words.specs.Words.{byte, num, word, put_num, put_word, Bytes}
+use Rattle.words.specs.Words.{byte, num, put_num, Bytes}
 use Rattle.words.specs.Inner.{Apart}
 use Rattle.words.proofs.Numbers.{length-put, num_out, num_same, byte_out, bytes_put, put_num_lem, num_lt, apart, apart_cases, field_out, field_same, first_out, past_first}
 use Rattle.card_layout.specs.declared.BlockId.{BlockId}
@@ -17,8 +16,8 @@ use Rattle.card_layout.specs.declared.inode.FileType.{FileType}
 use Rattle.card_layout.specs.declared.inode.FileType.TheVariants.{File, Dir, SymLink}
 use Rattle.card_layout.specs.declared.inode.Head.{Head}
 use Rattle.card_layout.specs.declared.inode.DiskINode.{DiskINode}
-use Rattle.card_layout.specs.declared.inode.Decoded.TheVariants.{Good, BadKind}
-use Rattle.card_layout.specs.Inode.{size, kind, links, count, direct, indirect, double, padding, device, kind_no, block_id, head_at, head_by, decoded, words, put_words, number_at, directs, put_front, put_back, encoded, Fitting, new_inode, with_size, with_links, with_blocks, with_indirect, with_double, with_direct}
+use Rattle.card_layout.specs.declared.inode.Decoded.TheVariants.{Good}
+use Rattle.card_layout.specs.Inode.{size, kind, links, count, direct, indirect, double, padding, device, kind_no, block_id, head_at, head_by, decoded, put_words, number_at, directs, put_front, put_back, encoded, Fitting, new_inode, with_size, with_links, with_blocks, with_indirect, with_double, with_direct}
 use Rattle.card_layout.proofs.Words.{length-words, get_or-words, length-put_words, num_out_words, byte_out_words, words_frame, words_same_of, words_lt, bytes_put_words, put_words_lem}
 
 pub kind_no_lt : (k : FileType) → kind_no k < 65536

@@ -1,15 +1,15 @@
 -- The laws of the superblock: each field is there after encoding, decoding and encoding are inverse, and encoding touches its own 48 bytes alone.
 -- Assumes nothing.
 use Prim.Native.Nat.{ℕ, ◌+◌, ◌^◌, ◌<◌, ◌≤◌}
-use mathlib.Core.Path.{◌≡◌, refl, sym, ap, ◌∙◌}
+use mathlib.Core.Path.{◌≡◌, sym, ap, ◌∙◌}
 use mathlib.Core.List.{List}
 use native.Mathlib.Omega.{arith}
-use lib.ListN.{length, get_or, take, drop, length-take, length-drop}
+use lib.ListN.{length, take, drop, length-take, length-drop}
 use lib.Seq.{ext_get_or, get_or-take, get_or-drop}
-use Rattle.words.specs.Words.{byte, num, put_num, put_word, Bytes}
+use Rattle.words.specs.Words.{byte, num, put_word, Bytes}
 use Rattle.words.specs.Inner.{Apart}
 use Rattle.words.specs.Runs.{copied}
-use Rattle.words.proofs.Numbers.{length-put, num_out, num_frame, num_same, byte_out, bytes_put, put_num_lem, num_lt}
+use Rattle.words.proofs.Numbers.{length-put, num_out, num_frame, num_same, byte_out, bytes_put, put_num_lem}
 use Rattle.words.proofs.Runs.{length-copied, byte-copied_off, byte-copied_in, copied_same, bytes_copied}
 use Rattle.card_layout.specs.declared.superblock.SuperBlock.{SuperBlock}
 use Rattle.card_layout.specs.Super.{magic, blocks, unused, maps, super_put}

@@ -1,6 +1,6 @@
 -- The lowest bit of a number by its trailing zeros: below the count all its bits are clear, and the bit there is set. Over the number n of the
 -- number's digits, 8 at a map byte. And what is left of a number whose k lowest bits are masked off. Assumes nothing.
-use Rattle.std.proofs.Common.{◌≡◌, ℕ, zero, suc, ◌+◌, ◌*◌, ◌/◌, ◌%◌, ◌^◌, ◌<◌, ◌≤◌, sym, ap, ◌∙◌, mul_assoc, mul_comm, pow-suc, div-mul-le_self, arith}
+use Rattle.std.proofs.Common.{◌≡◌, ℕ, zero, suc, ◌*◌, ◌/◌, ◌%◌, ◌^◌, ◌<◌, ◌≤◌, sym, ap, ◌∙◌, mul_assoc, mul_comm, pow-suc, div-mul-le_self, arith}
 use native.Mathlib.Nat.{div-div-eq-div-mul}
 use native.Mathlib.Decide.{ℕ_discrete}
 use lib.Count.{count_trailing_zeros, under}

@@ -6,8 +6,8 @@ use native.Mathlib.Omega.{arith}
 use lib.ListN.{length}
 use Rattle.words.specs.Words.{byte}
 use Rattle.words.specs.Sums.{cnt}
-use Rattle.card_layout.specs.Super.{blocks, maps}
-use Rattle.card_rules.specs.Places.{Place, held, InUse}
+use Rattle.card_layout.specs.Super.{blocks}
+use Rattle.card_rules.specs.Places.{held}
 use Rattle.card_rules.specs.Whole.{Whole}
 use Rattle.card_rules.proofs.Owners.{map_below, held_below}
 use Rattle.card_rules.specs.Same.{SameBlock, SameFile}

@@ -6,10 +6,10 @@ use Prim.Native.Nat.{ℕ, zero, suc, ◌+◌, ◌-◌, ◌*◌, ◌/◌, ◌%◌
 use native.Mathlib.Omega.{arith}
 use native.Mathlib.Decide.{dec_lt}
 use borrow.Author.Tests.{lt-ltb, le-ltb}
-use lib.ListN.{length, get_or, take, drop, length-take, length-drop}
+use lib.ListN.{length, get_or, take, drop, length-drop}
 use lib.Seq.{ext_get_or, get_or-take, get_or-drop, take_all, length-take-le}
 use Rattle.words.proofs.Numbers.{num_moved}
-use Rattle.words.specs.Words.{byte, num, word}
+use Rattle.words.specs.Words.{byte, word}
 use Rattle.words.specs.Runs.{copied}
 use Rattle.words.proofs.Runs.{length-copied, byte-copied_in, byte-copied_off}
 use Rattle.card_layout.specs.Inode.{count}

@@ -4,10 +4,7 @@ use mathlib.Core.List.{List, [], ◌∷◌}
 use Prim.Native.Nat.{ℕ, ◌+◌, ◌*◌, ◌%◌, ◌≤◌, ◌<◌}
 use native.Mathlib.Omega.{arith}
 use native.Mathlib.Decide.{ℕ_discrete}
-use borrow.Author.Tests.{eq-eqb, ne_eqb}
-use lib.Dec.{eqb}
 use lib.ListN.{length, get_or, drop}
-use Rattle.words.specs.Inner.{When}
 use Rattle.card_layout.specs.Entry.{upto_nul, Name}
 use Rattle.card_layout.proofs.Names.{nul_here, nul_next, nul_end, upto_no_nul}
 use Rattle.card_rules.specs.View.{name, file_bytes}

@@ -3,23 +3,16 @@ use mathlib.Core.Path.{◌≡◌, sym, ap, ◌∙◌, subst}
 use mathlib.Core.List.{List}
 use Prim.Native.Nat.{ℕ, ◌+◌, ◌*◌, ◌≤◌, ◌<◌}
 use native.Mathlib.Omega.{arith}
-use native.Mathlib.Decide.{ℕ_discrete}
 use native.Mathlib.Numerals.{add-one}
 use borrow.Author.Count.{below_more}
-use borrow.Author.Tests.{eq-eqb, ne_eqb}
 use lib.Dec.{eqb}
 use Rattle.words.specs.Inner.{When}
 use Rattle.words.specs.Sums.{δ, sum_to}
 use Rattle.words.proofs.Sums.{δ_same, δ_other, δ_le, sum_to_suc, sum_to_zero, sum_to_ones}
-use Rattle.card_layout.specs.Inode.{size, kind, links, count, kind_no, decoded}
-use Rattle.card_layout.specs.declared.inode.FileType.{FileType}
-use Rattle.card_layout.specs.declared.inode.FileType.TheVariants.{File, Dir, SymLink}
-use Rattle.card_layout.specs.declared.inode.Head.{Head}
-use Rattle.card_layout.specs.declared.inode.Decoded.TheVariants.{Good}
-use Rattle.card_rules.specs.View.{entry, kids, kid, subs}
+use Rattle.card_layout.specs.Inode.{kind, links, count}
+use Rattle.card_rules.specs.View.{entry, kids, kid}
 use Rattle.card_rules.specs.Whole.{Inode}
-use Rattle.card_rules.proofs.Views.{kids_of_dir, kids_of_other, kids_dir}
-use Rattle.check_marks.proofs.Heads.{head_kind, head_size}
+use Rattle.card_rules.proofs.Views.{kids_dir}
 use Rattle.words.proofs.Answers.{when-eqb}
 use Rattle.check_walk.specs.Inner.{Kept, Tally}
 

@@ -8,7 +8,7 @@ use native.Mathlib.Decide.{dec_lt}
 use lib.ListN.{length, get_or, take}
 use lib.Seq.{take-suc}
 use Rattle.words.specs.Sums.{δ, sum_to, sum_on, cnt}
-use Rattle.words.proofs.Sums.{δ_cases, δ_same, δ_other, sum_to_term, sum_to_ones, sum_on_nil, sum_on_snoc, sum_on_sub, sum_on_term}
+use Rattle.words.proofs.Sums.{δ_cases, δ_same, δ_other, sum_to_term, sum_on_nil, sum_on_snoc, sum_on_sub, sum_on_term}
 use Rattle.card_layout.specs.Super.{blocks, maps}
 use Rattle.card_layout.specs.Inode.{kind}
 use Rattle.card_map.specs.Bits.{map_bit}
@@ -17,7 +17,7 @@ use Rattle.card_rules.specs.Whole.{Sized, Reached, root, down, Whole}
 use Rattle.card_rules.proofs.Views.{uses_parts, kids_dir}
 use Rattle.check_walk.proofs.Queueing.{pos_suc, queue_le}
 use Rattle.check_walk.proofs.Visiting.{cnt_at}
-use Rattle.check_walk.specs.Inner.{pos, seen_at, Space, Good, Queue, Progress, Family, Tally, Tallies, Bits, Past, Seen}
+use Rattle.check_walk.specs.Inner.{pos, seen_at, Space, Good, Progress, Family, Tally, Tallies, Bits, Past, Seen}
 
 -- ---- the queue
 

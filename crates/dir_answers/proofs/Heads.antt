@@ -8,7 +8,6 @@ use lib.Dec.{eqb}
 use borrow.Author.Tests.{eqb-true}
 use Rattle.words.specs.Words.{pick}
 use Rattle.card_layout.specs.Sizes.{blocks_for}
-use Rattle.card_layout.specs.Super.{blocks}
 use Rattle.card_layout.specs.Inode.{size, kind, links, count, kind_no, head_at, head_by, decoded}
 use Rattle.card_layout.specs.declared.inode.FileType.{FileType}
 use Rattle.card_layout.specs.declared.inode.FileType.TheVariants.{File, Dir, SymLink}

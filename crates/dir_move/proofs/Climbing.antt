@@ -1,11 +1,11 @@
 -- Climbing from directory to parent, step by step. Assumes nothing.
-use mathlib.Core.Path.{◌≡◌, refl, sym, ap, ◌∙◌, subst}
-use mathlib.Core.Bool.{Bool, true, false}
+use mathlib.Core.Path.{◌≡◌, refl, ap, ◌∙◌, subst}
+use mathlib.Core.Bool.{true, false}
 use mathlib.Core.List.{List}
 use Prim.Native.Nat.{ℕ, zero, suc, ◌+◌, ◌-◌, ◌*◌, ◌≤◌, ◌<◌}
 use native.Mathlib.Omega.{arith}
 use borrow.Author.Tests.{eq-eqb, ne_eqb}
-use Rattle.card_layout.specs.Inode.{size, kind, count}
+use Rattle.card_layout.specs.Inode.{kind, count}
 use Rattle.card_rules.specs.View.{entry}
 use Rattle.card_rules.specs.Whole.{Reached, root, down, Whole}
 use Rattle.card_rules.proofs.Views.{kids_dir}

@@ -21,7 +21,7 @@ use Rattle.file_blocks.proofs.Picks.{pick-both, pick_yes, pick_no}
 use Rattle.dir_entries.specs.Entries.{where_is}
 use Rattle.dir_entries.specs.Names.{is_dots, storable}
 use Rattle.dir_entries.proofs.Given.{storable_name}
-use Rattle.dir_answers.specs.Answers.{acted_no, is_dir, of_head, in_dir, new_name, entry_needs, named_by}
+use Rattle.dir_answers.specs.Answers.{acted_no, is_dir, in_dir, new_name, entry_needs, named_by}
 use Rattle.dir_answers.specs.Inner.{placed}
 use Rattle.dir_move.specs.Move.{climbs, entry_room, dir_room, move_room, child_answer, source_answer, move_answer, moved, moved_at, move_card}
 use Rattle.dir_move.specs.Inner.{MoveReady, MovePassed}

@@ -10,9 +10,8 @@ use Rattle.words.specs.Words.{Bytes}
 use Rattle.words.specs.Sums.{cnt}
 use Rattle.card_layout.specs.Sizes.{blocks_for}
 use Rattle.card_layout.specs.Super.{blocks, unused}
-use Rattle.card_layout.specs.Inode.{size, kind, count}
+use Rattle.card_layout.specs.Inode.{kind, count}
 use Rattle.card_layout.specs.Slots.{owned}
-use Rattle.card_rules.specs.View.{file_byte}
 use Rattle.card_rules.specs.Whole.{Reached, Sound, Tree, Whole}
 use Rattle.card_rules.specs.Same.{SameFile}
 use Rattle.card_rules.proofs.Frames.{file_refl}

@@ -1,9 +1,8 @@
 -- What the statements of create, link, unlink, move and format say of a call that answers 0: what the definitions of the calls promise, and the frame that it
 -- leaves. Assumes nothing.
-use mathlib.Core.Path.{◌≡◌, refl, sym, ap, ◌∙◌, subst}
+use mathlib.Core.Path.{◌≡◌, sym, ap, ◌∙◌, subst}
 use mathlib.Core.List.{List, [], ◌∷◌}
 use Prim.Native.Nat.{ℕ}
-use native.Mathlib.Omega.{arith}
 use native.Mathlib.Decide.{ℕ_discrete}
 use lib.ListN.{length}
 use Rattle.words.specs.Words.{Bytes}

@@ -1,23 +1,20 @@
 -- Find, the entry at an index, metadata and format where they answer 0 have their effects (specs/LookEffects). Assumes nothing.
-use mathlib.Core.Path.{◌≡◌, refl, sym, ap, ◌∙◌, subst}
-use mathlib.Core.Logic.{◌⊎◌, ⊎_elim}
+use mathlib.Core.Path.{◌≡◌, sym, ap, ◌∙◌, subst}
+use mathlib.Core.Logic.{⊎_elim}
 use mathlib.Core.List.{List}
-use Prim.Native.Nat.{ℕ, ◌+◌, ◌*◌, ◌/◌, ◌≤◌, ◌<◌}
+use Prim.Native.Nat.{ℕ, ◌+◌, ◌*◌, ◌/◌, ◌≤◌}
 use native.Mathlib.Omega.{arith}
 use lib.ListN.{length}
-use Rattle.words.specs.Words.{byte}
-use Rattle.words.specs.Inner.{Apart}
 use Rattle.card_layout.specs.Sizes.{entry_size, blocks_for, maps_for, first_after_map}
-use Rattle.card_layout.specs.Super.{blocks, unused}
 use Rattle.card_layout.specs.Inode.{size, kind, links, count}
-use Rattle.card_rules.specs.View.{file_bytes, entries, entry, name, data_at}
-use Rattle.card_rules.specs.Whole.{Reached, Whole}
+use Rattle.card_rules.specs.View.{file_bytes}
+use Rattle.card_rules.specs.Whole.{Whole}
 use Rattle.card_rules.proofs.Views.{data_direct}
 use Rattle.card_rules.proofs.Bare.{bare_reached}
 use Rattle.dir_answers.specs.Answers.{acted_no, if_done}
 use Rattle.dir_answers.specs.declared.Acted.{Acted}
 use Rattle.dir_look.specs.Look.{find_answer, entry_answer, entry_bytes, no_entry}
-use Rattle.dir_format.specs.Format.{format_answer, format_card, formatted}
+use Rattle.dir_format.specs.Format.{format_answer, formatted}
 use Rattle.call_said.specs.Said.{said_no, said_value, of_acted}
 use Rattle.call_said.specs.declared.Said.{Said}
 use Rattle.call_said.specs.declared.Said.TheVariants as S
@@ -25,7 +22,7 @@ use Rattle.call_looks.specs.LookCalls.{Found, Listed, Described}
 use Rattle.call_dirs.specs.DirCalls.{Formatted}
 use Rattle.law_dirs.proofs.LookTests.{FindTests, find_6, find_10, find_done, find_tests_lem, EntryTests, entry_6, entry_10, entry_done, entry_tests_lem}
 use Rattle.law_dirs.proofs.FreshCard.{format_fits, format_card_lem, format_whole, fresh_views, fresh_length, fresh_rest}
-use Rattle.law_calls.specs.LookEffects.{FindEffect, EntryEffect, MetadataEffect, Elsewhere, FormatEffect}
+use Rattle.law_calls.specs.LookEffects.{FindEffect, EntryEffect, MetadataEffect, FormatEffect}
 use Rattle.law_calls.proofs.Calls.{same_either}
 use Rattle.law_calls.proofs.Acts.{acts}
 use Rattle.law_calls.proofs.Refusals.{said_acted}

@@ -35,7 +35,7 @@ use Rattle.law_calls.specs.Made.{
 }
 use Rattle.law_files.proofs.Writing.{step}
 use Rattle.law_calls.proofs.Calls.{Outcome, stays, acts, called}
-use Rattle.law_calls.proofs.Frame.{same_data_refl, same_data_trans, frame_same, step_frame}
+use Rattle.law_calls.proofs.Frame.{frame_same, step_frame}
 use Rattle.law_calls.proofs.Refusals.{refused_same}
 use Rattle.law_calls.proofs.DoneCalls.{created_frame, linked_frame, unlinked_frame, moved_frame}
 

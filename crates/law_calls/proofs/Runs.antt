@@ -1,12 +1,11 @@
 -- Runs of public calls: a whole card stays whole; a record that no call that is done writes or removes has its kind, length, blocks and bytes, and what no call
 -- names has all that it had; each byte of a file is as last written. Assumes nothing.
-use mathlib.Core.Path.{◌≡◌, refl, sym, ap, ◌∙◌, subst}
+use mathlib.Core.Path.{◌≡◌, refl, sym, ap, ◌∙◌}
 use mathlib.Core.Logic.{◌≢◌}
 use mathlib.Core.List.{List, [], ◌∷◌, ◌++◌}
-use Prim.Native.Nat.{ℕ, ◌+◌, ◌-◌, ◌≤◌, ◌<◌}
+use Prim.Native.Nat.{ℕ, ◌<◌}
 use native.Mathlib.Omega.{arith}
 use native.Mathlib.Decide.{ℕ_discrete}
-use borrow.Author.Tests.{ne_eqb}
 use Rattle.words.specs.Words.{Bytes}
 use Rattle.words.specs.Sums.{δ, cnt}
 use Rattle.words.proofs.Sums.{sum_on_nil}
@@ -16,14 +15,12 @@ use Rattle.card_rules.specs.Whole.{Reached, Whole}
 use Rattle.card_rules.specs.Same.{SameFile}
 use Rattle.card_rules.proofs.Tree.{reached_listed}
 use Rattle.card_rules.proofs.Kept.{slots_few}
-use Rattle.card_rules.proofs.Frames.{file_refl, file_trans, kind_is, inode_room}
+use Rattle.card_rules.proofs.Frames.{file_refl, file_trans, inode_room}
 use Rattle.call_said.specs.Said.{said_no}
 use Rattle.call_said.specs.declared.Said.{Said}
-use Rattle.law_files.specs.Requests.{Request, reading, writing, resizing}
-use Rattle.law_calls.specs.Calls.{Called}
 use Rattle.law_calls.specs.SameData.{SameData}
-use Rattle.law_calls.specs.Made.{Asked, file, Made, filed, create, link, unlink, move, find, list, describe, check, OfBytesAll, names_of, writes_of, removes_of}
-use Rattle.law_calls.specs.Runs.{Call, Done, Unwritten, Unremoved, Unnamed, Run, none, next, put, last_put}
+use Rattle.law_calls.specs.Made.{Asked, Made, filed, create, link, unlink, move, find, list, describe, check, OfBytesAll, names_of, writes_of}
+use Rattle.law_calls.specs.Runs.{Call, Unwritten, Unremoved, Unnamed, Run, none, next, put, last_put}
 use Rattle.law_calls.proofs.Calls.{call_step}
 use Rattle.law_calls.proofs.Frame.{same_data_refl, same_data_trans}
 use Rattle.law_calls.proofs.Refusals.{refused_same}

@@ -3,7 +3,7 @@
 use mathlib.Core.Path.{◌≡◌, refl, sym, ap, ◌∙◌, subst}
 use mathlib.Core.Logic.{◌≢◌, ◌⊎◌}
 use mathlib.Core.List.{List, [], ◌∷◌}
-use Prim.Native.Nat.{ℕ, ◌+◌, ◌-◌, ◌≤◌, ◌<◌, max}
+use Prim.Native.Nat.{ℕ, ◌+◌, ◌-◌, ◌≤◌, ◌<◌}
 use native.Mathlib.Omega.{arith}
 use native.Mathlib.Decide.{dec_lt, ℕ_discrete}
 use lib.Dec.{eqb, ltb}
@@ -19,14 +19,13 @@ use Rattle.card_rules.proofs.Tree.{reached_listed}
 use Rattle.card_rules.proofs.Frames.{inode_room}
 use Rattle.call_said.specs.Said.{said_no, said_value}
 use Rattle.call_said.specs.declared.Said.{Said}
-use Rattle.law_files.specs.Requests.{Request, reading, writing, resizing}
+use Rattle.law_files.specs.Requests.{Request, writing, resizing}
 use Rattle.law_files.specs.Effects.{ResizeEffect, WriteEffect}
 use Rattle.law_files.proofs.Writing.{pick_same}
 use Rattle.law_calls.specs.Calls.{Called, read, write, resize}
 use Rattle.law_calls.specs.SameData.{SameData}
 use Rattle.law_calls.specs.Made.{Asked, file, Made, filed, create, link, unlink, move, find, list, describe, check, OfBytesAll, writes_of}
 use Rattle.law_calls.specs.Runs.{Call, Unremoved, Run, none, next, shown, last_shown}
-use Rattle.law_calls.proofs.Refusals.{refused_same}
 use Rattle.law_calls.proofs.Made.{made_whole, made_bytes}
 use Rattle.law_calls.proofs.Stays.{made_stays}
 use Rattle.law_calls.proofs.Runs.{call_data}

@@ -7,7 +7,6 @@ use Prim.Native.Nat.{ℕ, ◌≤◌, ◌<◌}
 use native.Mathlib.Omega.{arith}
 use native.Mathlib.Decide.{dec_lt, ℕ_discrete}
 use borrow.Author.Tests.{lt-ltb, le-ltb, eq-eqb, ne_eqb}
-use lib.Dec.{ltb}
 use Rattle.card_layout.specs.Sizes.{full_links}
 use Rattle.words.specs.Words.{pick}
 use Rattle.words.specs.Sums.{cnt}

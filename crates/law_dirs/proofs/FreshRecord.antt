@@ -4,7 +4,6 @@ use mathlib.Core.List.{List}
 use Prim.Native.Nat.{ℕ, ◌+◌, ◌*◌, ◌≤◌, ◌<◌, ◌^◌}
 use native.Mathlib.Omega.{arith}
 use native.Mathlib.Decide.{ℕ_discrete}
-use borrow.Author.Tests.{lt-ltb}
 use lib.ListN.{set, length-set, get_or-replicate}
 use lib.Seq.{get_or-set_same, get_or-set_other}
 use Rattle.words.specs.Words.{Bytes}
@@ -12,7 +11,7 @@ use Rattle.words.specs.Runs.{turns}
 use Rattle.words.specs.Sums.{cnt}
 use Rattle.card_layout.specs.Sizes.{blocks_for}
 use Rattle.card_layout.specs.Super.{blocks, unused}
-use Rattle.card_layout.specs.Inode.{size, kind, count, direct, kind_no, block_id, number_at, directs, with_direct, Fitting}
+use Rattle.card_layout.specs.Inode.{kind, count, direct, kind_no, block_id, number_at, directs, with_direct, Fitting}
 use Rattle.card_layout.specs.Slots.{owned}
 use Rattle.card_layout.specs.declared.BlockId.{BlockId}
 use Rattle.card_layout.specs.declared.inode.FileType.{FileType}

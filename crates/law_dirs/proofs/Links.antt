@@ -6,7 +6,6 @@ use mathlib.Core.Logic.{◌≢◌, ⊎_elim}
 use Prim.Native.Nat.{ℕ, ◌+◌, ◌-◌, ◌*◌, ◌/◌, ◌%◌, ◌≤◌, ◌<◌}
 use native.Mathlib.Omega.{arith}
 use native.Mathlib.Decide.{dec_lt}
-use borrow.Author.Tests.{lt-ltb, le-ltb}
 use lib.Dec.{ltb}
 use lib.ListN.{length}
 use Rattle.words.specs.Words.{pick, byte, num, Bytes}
@@ -31,7 +30,7 @@ use Rattle.card_rules.specs.Same.{SameBlock, SameFile}
 use Rattle.card_rules.proofs.Frames.{block_from, block_slot, block_sym, block_trans, seconds_fit, inode_room}
 use Rattle.card_rules.proofs.Kept.{SameSuper, SameMap, super_block, map_blocks, bit_of_lem, slots_few, magic_is, blocks_is, unused_is, maps_is}
 use Rattle.card_rules.proofs.Isolation.{Within, Balanced, others_same, sound_one}
-use Rattle.file_requests.specs.Resizing.{lengthened, fitted}
+use Rattle.file_requests.specs.Resizing.{fitted}
 use Rattle.file_requests.proofs.Changes.{fitted_up, fitted_down, fitted_within}
 use Rattle.file_requests.specs.Requests.{longest, needs}
 use Rattle.law_files.proofs.Change.{Changed}
@@ -43,7 +42,7 @@ use Rattle.law_files.proofs.Shortened.{shorter_changed, same_changed}
 use Rattle.law_files.proofs.Resized.{in_use_is, resized_still}
 use Rattle.law_files.proofs.Edits.{Edited, edited_trans}
 use Rattle.law_dirs.specs.Entries.{Relinked as ButLinks}
-use Rattle.law_dirs.proofs.RecordBytes.{SameTail, tail_trans, tail_record, tail_lengthened, tail_shorter, tail_size}
+use Rattle.law_dirs.proofs.RecordBytes.{SameTail, tail_lengthened, tail_shorter, tail_size}
 use Rattle.law_dirs.proofs.LinkBytes.{relinked, encoded_links, lengthened_links, shorter_links, size_links}
 
 -- ---- the two bytes of links

@@ -7,11 +7,11 @@ use Prim.Native.Nat.{ℕ, ◌+◌, ◌≤◌, ◌<◌}
 use native.Mathlib.Omega.{arith}
 use native.Mathlib.Decide.{dec_lt, ℕ_discrete}
 use borrow.Author.Tests.{lt-ltb, le-ltb, eq-eqb, ne_eqb}
-use lib.Dec.{eqb, ltb}
+use lib.Dec.{eqb}
 use Rattle.card_layout.specs.Sizes.{full_links}
 use Rattle.words.specs.Words.{pick}
 use Rattle.card_layout.specs.Super.{blocks, unused}
-use Rattle.card_layout.specs.Inode.{size, kind, links, count, kind_no, head_at, decoded}
+use Rattle.card_layout.specs.Inode.{size, kind, links, count, kind_no, head_at}
 use Rattle.card_layout.specs.Entry.{Name}
 use Rattle.card_layout.specs.declared.inode.FileType.{FileType}
 use Rattle.card_layout.specs.declared.inode.FileType.TheVariants.{File, Dir, SymLink}

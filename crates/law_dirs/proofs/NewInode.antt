@@ -13,7 +13,7 @@ use Rattle.words.specs.Sums.{δ, sum_to, cnt}
 use Rattle.words.proofs.Numbers.{num_lt, num_frame}
 use Rattle.words.proofs.Sums.{δ_other, δ_cases, sum_to_zero}
 use Rattle.card_layout.specs.Super.{blocks, unused, maps}
-use Rattle.card_layout.specs.Inode.{size, kind, links, count, indirect, double, kind_no, encoded, new_inode, with_links, Fitting}
+use Rattle.card_layout.specs.Inode.{size, kind, links, count, kind_no, encoded, new_inode, with_links, Fitting}
 use Rattle.card_layout.specs.declared.inode.FileType.{FileType}
 use Rattle.card_layout.specs.declared.inode.FileType.TheVariants.{File, Dir, SymLink}
 use Rattle.card_layout.specs.declared.inode.DiskINode.{DiskINode}

@@ -1,34 +1,27 @@
 -- The padding and the device number of a record whose length and links change: "A new record has zero padding; a later edit keeps it". `img` is the card
 -- before, `out` the card after. Assumes nothing.
 use mathlib.Core.Path.{◌≡◌, refl, ap, ◌∙◌}
-use mathlib.Core.Bool.{true}
-use mathlib.Core.List.{List, []}
+use mathlib.Core.List.{List}
 use Prim.Native.Nat.{ℕ, ◌+◌, ◌*◌, ◌≤◌, ◌<◌, ◌^◌}
 use native.Mathlib.Omega.{arith}
 use lib.Dec.{ltb}
 use lib.ListN.{length}
 use Rattle.words.specs.Words.{pick, put_word, Bytes}
-use Rattle.words.specs.Sums.{cnt}
 use Rattle.words.proofs.Numbers.{length-put, num_out, num_same, num_lt}
 use Rattle.card_layout.specs.Sizes.{blocks_for}
-use Rattle.card_layout.specs.Super.{blocks}
-use Rattle.card_layout.specs.Inode.{size, count, padding, device, with_size, put_words, put_front, put_back, encoded}
+use Rattle.card_layout.specs.Inode.{count, padding, device, with_size, put_words, put_front, put_back, encoded}
 use Rattle.card_layout.specs.declared.inode.FileType.{FileType}
 use Rattle.card_layout.specs.declared.inode.Head.{Head}
 use Rattle.card_layout.specs.declared.inode.DiskINode.{DiskINode}
 use Rattle.card_layout.proofs.Words.{length-put_words}
 use Rattle.card_layout.proofs.InodeLaws.{inode_at, length_front}
-use Rattle.card_rules.specs.Whole.{Sound}
 use Rattle.card_rules.specs.Same.{SameRecord}
 use Rattle.card_rules.proofs.Frames.{padding_is, device_is}
-use Rattle.card_rules.proofs.Isolation.{sound_one, data_slots}
 use Rattle.file_blocks.specs.Taking.{Growing, into_indirect, into_double, grow_indirect, grow_double, grow_level, grow_direct, grow_single, grown}
 use Rattle.file_blocks.specs.Taking.{shrunk, less_indirect, less_double}
 use Rattle.file_blocks.proofs.Picks.{pick-both}
 use Rattle.file_blocks.proofs.Growth.{inode_grow_level, inode_grow_single, inode_grow_twofold, head_grow_direct}
-use Rattle.file_requests.specs.Resizing.{of_length, growth, lengthened, cleaned, file_blocks, shorter}
-use Rattle.law_files.proofs.Change.{Changed}
-use Rattle.law_files.proofs.Filling.{filled_within}
+use Rattle.file_requests.specs.Resizing.{of_length, growth, lengthened, file_blocks, shorter}
 use Rattle.law_files.proofs.Losses.{less_both}
 use Rattle.law_dirs.proofs.LinkBytes.{relinked}
 

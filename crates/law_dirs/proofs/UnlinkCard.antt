@@ -27,7 +27,7 @@ use Rattle.card_rules.specs.Places.{Place, at_indirect, at_double, held, InUse}
 use Rattle.card_rules.proofs.Views.{kids_of_dir, owned_mono}
 use Rattle.card_rules.proofs.Tree.{named_some}
 use Rattle.card_rules.specs.Same.{SameFile}
-use Rattle.card_rules.proofs.Frames.{size_is, kind_is, links_is, count_is, file_refl}
+use Rattle.card_rules.proofs.Frames.{kind_is, count_is, file_refl}
 use Rattle.card_rules.proofs.Kept.{Steady}
 use Rattle.card_rules.proofs.Isolation.{others_same}
 use Rattle.dir_entries.specs.Entries.{where_is, removed}

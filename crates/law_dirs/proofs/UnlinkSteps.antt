@@ -2,14 +2,13 @@
 use mathlib.Core.Path.{◌≡◌, sym, ap, ◌∙◌}
 use mathlib.Core.Logic.{◌≢◌}
 use mathlib.Core.List.{List}
-use Prim.Native.Nat.{ℕ, ◌+◌, ◌-◌, ◌*◌, ◌≤◌, ◌<◌}
+use Prim.Native.Nat.{ℕ, ◌+◌, ◌*◌, ◌≤◌, ◌<◌}
 use native.Mathlib.Omega.{arith}
 use Rattle.words.specs.Sums.{cnt}
 use Rattle.card_layout.specs.Super.{unused}
 use Rattle.card_layout.specs.Inode.{size, kind, links, count}
 use Rattle.card_layout.specs.Slots.{owned}
 use Rattle.card_rules.specs.View.{file_byte}
-use Rattle.card_rules.specs.Whole as Card
 use Rattle.card_rules.specs.Whole.{Sound}
 use Rattle.card_rules.specs.Places.{Place, held, InUse}
 use Rattle.card_rules.specs.Same.{SameFile}

@@ -9,7 +9,7 @@ use native.Mathlib.Decide.{dec_lt, ℕ_discrete}
 use borrow.Author.Tests.{lt-ltb, le-ltb}
 use lib.Dec.{ltb}
 use Rattle.words.specs.Words.{pick}
-use Rattle.card_layout.specs.Inode.{kind, kind_no, head_at, decoded}
+use Rattle.card_layout.specs.Inode.{kind, kind_no, head_at}
 use Rattle.card_layout.specs.declared.inode.FileType.{FileType}
 use Rattle.card_layout.specs.declared.inode.FileType.TheVariants.{File, Dir, SymLink}
 use Rattle.card_rules.specs.View.{entries, entry, name}

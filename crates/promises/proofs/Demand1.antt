@@ -1,7 +1,6 @@
 -- Demand 1 (specs/Demand1) holds. Assumes nothing.
-use mathlib.Core.Path.{◌≡◌, refl, ◌∙◌}
+use mathlib.Core.Path.{◌≡◌, refl}
 use mathlib.Core.Logic.{◌≢◌}
-use mathlib.Core.List.{List}
 use Prim.Native.Nat.{ℕ}
 use Rattle.card_layout.specs.Inode.{size, kind, links, count}
 use Rattle.check_walk.specs.declared.Opened.{Opened}
@@ -11,7 +10,6 @@ use Rattle.check_walk.proofs.Agree.{agree}
 use Rattle.call_said.specs.Said.{said_no, said_value, if_open, of_opened}
 use Rattle.call_said.specs.declared.Said.{Said}
 use Rattle.call_said.specs.declared.Said.TheVariants as S
-use Rattle.call_looks.specs.LookCalls.{Described}
 use Rattle.sfs.proofs.Agree.{read_agrees, write_agrees, resize_agrees}
 use Rattle.sfs.proofs.AgreeDirs.{create_agrees, link_agrees, unlink_agrees, move_agrees, format_agrees, find_agrees, entry_agrees, metadata_agrees}
 use Rattle.law_calls.proofs.Refusals.{refused_same, format_refused, read_refused, listed_refused}

@@ -1,9 +1,5 @@
 -- Demand 2 (specs/Demand2), as far as it is proved, holds. Assumes nothing.
-use mathlib.Core.List.{List}
-use Prim.Native.Nat.{ℕ}
-use Rattle.card_layout.specs.Super.{blocks}
 use Rattle.check_walk.proofs.Agree.{opened}
-use Rattle.call_said.specs.Said.{of_acted}
 use Rattle.law_calls.proofs.Acts.{created_card, linked_card, unlinked_card, moved_card}
 use Rattle.law_calls.proofs.Made.{made_whole, made_bytes}
 use Rattle.law_calls.proofs.DoneCalls.{formatted_bytes}

@@ -1,22 +1,21 @@
 -- Demand 3 (specs/Demand3) holds. Assumes nothing.
 use mathlib.Core.Path.{◌≡◌, ◌∙◌}
 use mathlib.Core.Logic.{◌≢◌, ◌⊎◌, ⊎_elim}
-use mathlib.Core.List.{List, ◌++◌}
-use Prim.Native.Nat.{ℕ, ◌+◌, ◌*◌, ◌≤◌, ◌<◌}
+use mathlib.Core.List.{List}
+use Prim.Native.Nat.{ℕ, ◌+◌, ◌≤◌, ◌<◌}
 use native.Mathlib.Omega.{arith}
 use native.Mathlib.Decide.{dec_lt}
-use lib.ListN.{length}
 use Rattle.words.specs.Words.{Bytes}
 use Rattle.card_layout.specs.Sizes.{blocks_for}
 use Rattle.card_layout.specs.Super.{unused}
-use Rattle.card_layout.specs.Inode.{size, count}
+use Rattle.card_layout.specs.Inode.{count}
 use Rattle.card_layout.specs.Slots.{owned}
-use Rattle.card_rules.specs.Whole.{Reached, Whole}
+use Rattle.card_rules.specs.Whole.{Whole}
 use Rattle.card_rules.proofs.Tree.{reached_listed}
 use Rattle.file_requests.specs.Requests.{longest}
 use Rattle.call_said.specs.Said.{said_no}
-use Rattle.law_calls.specs.Runs.{Call, Run}
-use Rattle.law_calls.specs.Days.{OfDay, Day}
+use Rattle.law_calls.specs.Runs.{Call}
+use Rattle.law_calls.specs.Days.{Day}
 use Rattle.law_calls.proofs.Runs.{run_part}
 use Rattle.law_calls.proofs.Days.{day_end, day_return, day_bytes}
 use Rattle.law_calls.proofs.Calls.{resize_refused_exactly}

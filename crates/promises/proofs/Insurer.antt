@@ -1,10 +1,9 @@
 -- The insurer's answer (specs/Insurer) holds. Assumes nothing.
 use mathlib.Core.Path.{◌≡◌, refl, ap, sym, ◌∙◌, subst}
-use Prim.Native.Nat.{ℕ, ◌+◌, ◌-◌, ◌≤◌, ◌<◌}
+use Prim.Native.Nat.{ℕ, ◌+◌, ◌-◌, ◌<◌}
 use native.Mathlib.Omega.{arith}
 use mathlib.Core.List.{List}
 use mathlib.Core.Logic.{◌≢◌}
-use lib.ListN.{length}
 use Rattle.words.specs.Words.{byte, Bytes}
 use Rattle.words.specs.Sums.{δ}
 use Rattle.words.proofs.Sums.{sum_on_nil}
@@ -12,9 +11,7 @@ use Rattle.card_layout.specs.Super.{blocks}
 use Rattle.card_layout.specs.Inode.{size, kind}
 use Rattle.card_rules.specs.View.{file_byte}
 use Rattle.card_rules.specs.Whole.{Reached, Whole}
-use Rattle.call_said.specs.Said.{said_no, said_value, of_filed, of_acted}
-use Rattle.call_said.specs.declared.Said.{Said}
-use Rattle.call_files.specs.FileCalls.{Read, Written}
+use Rattle.call_said.specs.Said.{said_value, of_filed, of_acted}
 use Rattle.file_requests.specs.Requests.{resize_answer, resize_card}
 use Rattle.law_files.specs.Requests.{writing, resizing}
 use Rattle.law_files.specs.Effects.{WriteEffect, ResizeEffect}
@@ -33,25 +30,7 @@ use Rattle.law_calls.proofs.Acts.{Acts, acts, created_card}
 use Rattle.law_calls.proofs.Shown.{run_shown}
 use Rattle.law_calls.proofs.Effects.{created_effect}
 use Rattle.law_calls.proofs.FileEffects.{read_gives, write_done, write_of_lem, resize_done}
-use Rattle.promises.specs.Insurer.{
-  Beside,
-  Answer,
-  Survives,
-  AnswerUnnamed,
-  StaysWhole,
-  Quiet,
-  SameName,
-  QuietBeside,
-  UnderName,
-  OffPath,
-  SamePath,
-  Lasts,
-  Gives,
-  WrittenIsRead,
-  StoredIsRead,
-  ShowsOwn,
-  ShortenedIsGone,
-}
+use Rattle.promises.specs.Insurer.{Answer, Survives, AnswerUnnamed, StaysWhole, SameName, UnderName, OffPath, SamePath, Lasts, Gives, WrittenIsRead, StoredIsRead, ShowsOwn, ShortenedIsGone}
 
 pub answer : Answer
 answer img out cs m w b h d r = run_data m (λ i j c p. p.unremoved) (λ i j c p. p.unwritten) w b h d r

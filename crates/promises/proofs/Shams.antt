@@ -6,7 +6,6 @@ use mathlib.Core.List.{List, [], ◌∷◌}
 use Prim.Native.Nat.{ℕ, ◌+◌, ◌≤◌, ◌<◌, ◌^◌}
 use native.Mathlib.Omega.{arith}
 use lib.ListN.{length, replicate, length-replicate, get_or}
-use Rattle.words.specs.Words.{Bytes}
 use Rattle.words.specs.Sums.{δ}
 use Rattle.words.proofs.Sums.{sum_on_nil}
 use Rattle.card_layout.specs.Sizes.{blocks_for}

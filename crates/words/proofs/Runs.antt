@@ -7,7 +7,7 @@ use native.Mathlib.Nat.{le_refl, sub_self, add-zero, add-suc}
 use native.Mathlib.Numerals.{add-one}
 use native.Mathlib.Omega.{arith}
 use native.Mathlib.Decide.{ℕ_discrete}
-use lib.ListN.{length, get_or, set, length-set, replicate, length-replicate, get_or-replicate}
+use lib.ListN.{length, set, length-set, replicate, length-replicate, get_or-replicate}
 use lib.Seq.{set-get_or, paste, paste-zero, paste-suc, get_or-set_same, get_or-set_other}
 use Rattle.words.specs.Words.{byte, num, put_num, Bytes}
 use Rattle.words.specs.Inner.{Apart}

@@ -1,10 +1,4 @@
-use mathlib.Core.Path.{refl, ap, ◌∙◌}
-use Prim.Native.Nat.{ℕ}
-use Rattle.file_requests.specs.declared.Filed.{Filed}
-use Rattle.call_said.specs.Said.{of_filed}
-use Rattle.call_said.proofs.Opened.{ready, ready_sizes, ready_below, on_open, on_shut}
-use Rattle.file_requests.specs.Requests.{write_card}
-use borrow.Author.Rules.{rules}
+use Rattle.call_said.proofs.Opened.{ready, ready_sizes, ready_below}
 use Rattle.call_files.proofs.write.Goals as goal
 
 pub write-r-requires : goal.write-r-requires

@@ -1,7 +1,6 @@
 use mathlib.Core.Path.{sym, ◌∙◌}
 use Rattle.dir_answers.proofs.Heads.{head_is}
-use Rattle.call_said.proofs.Opened.{ready, record_in, reached_kind, on_open, on_shut}
-use borrow.Author.Rules.{rules}
+use Rattle.call_said.proofs.Opened.{ready, record_in, reached_kind, on_open}
 use Rattle.call_looks.proofs.metadata.Goals as goal
 
 pub decode-requires : goal.decode-requires

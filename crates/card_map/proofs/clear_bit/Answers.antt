@@ -1,6 +1,6 @@
-use Rattle.std.proofs.Common.{◌+◌, ◌/◌, ◌%◌, get_or, arith, rules}
+use Rattle.std.proofs.Common.{◌%◌, arith}
 use Rattle.card_map.specs.Bits.{map_bit, clear_bit}
-use Rattle.card_map.proofs.Bits.{shl_one, off_within}
+use Rattle.card_map.proofs.Bits.{shl_one}
 use Rattle.card_map.proofs.clear_bit.Goals as goal
 
 pub returns : goal.returns

@@ -1,4 +1,4 @@
-use Rattle.std.proofs.Common.{◌≡◌, ◌+◌, ◌*◌, ◌/◌, sym, ap, ◌∙◌, arith, rules}
+use Rattle.std.proofs.Common.{◌≡◌, ◌+◌, ◌*◌, ◌/◌, sym, ap, ◌∙◌, arith}
 use Rattle.card_map.specs.Free.{lowest}
 use Rattle.card_map.specs.Inner.{found_below}
 use Rattle.card_map.proofs.Laws.{lowest_within, lowest_past, found_below_some, found_below-none}

@@ -1,4 +1,4 @@
-use Rattle.std.proofs.Common.{ℕ, ◌+◌, ◌%◌, ◌^◌, List, ap, ◌∙◌, rules}
+use Rattle.std.proofs.Common.{ℕ, ◌+◌, ◌%◌, ◌^◌, List, ap, ◌∙◌}
 use Rattle.card_layout.specs.Super.{put_unused}
 use Rattle.card_map.specs.Bits.{set_bit}
 use Rattle.card_map.specs.Free.{freed}

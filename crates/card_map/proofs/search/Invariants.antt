@@ -1,13 +1,5 @@
-use Rattle.std.proofs.Common.{◌≡◌, ℕ, ◌+◌, ◌-◌, ◌*◌, ◌/◌, ◌%◌, ◌<◌, ◌≤◌, List, sym, ap, ◌∙◌, arith, eqb-true}
-use native.Mathlib.Decide.{dec_lt}
-use lib.Count.{count_trailing_zeros}
-use Rattle.words.specs.Words.{byte}
+use Rattle.std.proofs.Common.{◌≡◌, ℕ, ◌+◌, ◌-◌, ◌*◌, ◌<◌, ◌≤◌, List}
 use Rattle.card_map.specs.Bits.{map_bit}
-use Rattle.card_map.proofs.Bits.{bit_of}
-use Rattle.card_map.proofs.Map.{bit_at}
-use Rattle.card_map.proofs.Groups.{group_clear, bits_of_zero}
-use Rattle.card_map.proofs.Zeros.{Lowest, trailing_lowest, from, from_below, from_on, from_le}
-use Rattle.card_map.proofs.Laws.{lowest_is, lowest-none}
 use Rattle.card_map.proofs.search.Given as goal
 
 -- no block from i on below n is free

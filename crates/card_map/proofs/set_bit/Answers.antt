@@ -1,4 +1,4 @@
-use Rattle.std.proofs.Common.{◌+◌, ◌/◌, ◌%◌, get_or, arith, rules}
+use Rattle.std.proofs.Common.{◌+◌, ◌/◌, ◌%◌, get_or, arith}
 use Rattle.card_map.specs.Bits.{map_bit, set_bit}
 use Rattle.card_map.proofs.Bits.{shl_one, on_room}
 use Rattle.card_map.proofs.set_bit.Goals as goal

@@ -1,4 +1,3 @@
-use borrow.Author.Rules.{rules}
 use native.Mathlib.Omega.{arith}
 use Rattle.check_line.specs.Line.{blocks_text, free_text, newline, decimal, check_line}
 use Rattle.check_line.proofs.Puts.{made_first, made_more}

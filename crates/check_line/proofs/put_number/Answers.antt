@@ -5,7 +5,6 @@ use lib.ListN.{length, length-set}
 use Rattle.check_line.specs.Line.{digit, decimal, put_at}
 use Rattle.check_line.proofs.Decimal.{decimal_small, decimal_large, length_small, length_large, length_some}
 use Rattle.check_line.proofs.Puts.{put_one, put_last}
-use borrow.Author.Rules.{rules}
 use Rattle.check_line.proofs.put_number.Goals as goal
 
 pub overflow_sub-i : goal.overflow_sub-i

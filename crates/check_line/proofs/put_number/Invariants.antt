@@ -1,11 +1,7 @@
-use mathlib.Core.Path.{◌≡◌, refl, sym, ap, ◌∙◌}
-use Prim.Native.Nat.{◌+◌, ◌/◌, ◌%◌, ◌≤◌, ◌<◌}
-use native.Mathlib.Omega.{arith}
-use lib.ListN.{length, length-set}
-use Rattle.check_line.specs.Line.{digit, decimal, put_at}
-use Rattle.check_line.proofs.Decimal.{decimal_small, decimal_large, length_small, length_large, length_some}
-use Rattle.check_line.proofs.Puts.{put_one, put_last}
-use borrow.Author.Rules.{rules}
+use mathlib.Core.Path.{◌≡◌}
+use Prim.Native.Nat.{◌+◌, ◌<◌}
+use lib.ListN.{length}
+use Rattle.check_line.specs.Line.{decimal, put_at}
 use Rattle.check_line.proofs.put_number.Given as goal
 
 abbrev pub invariant-loop-rest : goal.invariant-loop-rest

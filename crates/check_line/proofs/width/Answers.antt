@@ -1,8 +1,4 @@
-use mathlib.Core.Path.{◌≡◌, refl}
-use Prim.Native.Nat.{◌+◌}
 use native.Mathlib.Omega.{arith}
-use lib.ListN.{length}
-use Rattle.check_line.specs.Line.{decimal}
 use Rattle.check_line.proofs.Decimal.{length_small, length_large, length_some, length_32}
 use Rattle.check_line.proofs.width.Goals as goal
 

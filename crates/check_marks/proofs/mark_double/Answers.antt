@@ -1,13 +1,9 @@
-use Prim.Native.Nat.{ℕ, ◌+◌, ◌*◌, ◌<◌}
-use mathlib.Core.Path.{ap, sym}
+use Prim.Native.Nat.{◌*◌, ◌<◌}
 use native.Mathlib.Omega.{arith}
-use Rattle.card_layout.specs.Slots.{seconds}
 use Rattle.card_rules.proofs.Views.{seconds_some}
-use Rattle.check_marks.specs.Inner.{run_use, level_use}
 use Rattle.words.proofs.Answers.{when_not_false}
-use Rattle.check_marks.proofs.Marking.{marks_none, clash_le, did_after, run_in, ran, not_ran}
+use Rattle.check_marks.proofs.Marking.{marks_none, run_in}
 use Rattle.check_marks.proofs.Uses.{double_none}
-use borrow.Author.Rules.{rules}
 use Rattle.check_marks.proofs.mark_double.Goals as goal
 
 pub returns-then-c-lt1036 : goal.returns-then-c-lt1036

@@ -1,8 +1,7 @@
 use Prim.Native.Nat.{◌*◌, ◌-◌, min}
 use mathlib.Core.Path.{◌≡◌}
 use native.Mathlib.Omega.{arith}
-use Rattle.check_marks.proofs.Marking.{marks_none, run_none, did_run}
-use borrow.Author.Rules.{rules}
+use Rattle.check_marks.proofs.Marking.{marks_none, run_none}
 use Rattle.check_marks.proofs.mark_indirect.Goals as goal
 
 pub returns-then-c-lt12 : goal.returns-then-c-lt12

@@ -1,14 +1,8 @@
 use Prim.Native.Nat.{ℕ, ◌+◌, ◌*◌, ◌-◌, ◌≤◌}
-use mathlib.Core.Path.{◌≡◌, ap, ◌∙◌, subst}
 use mathlib.Core.List.{List}
-use native.Mathlib.Omega.{arith}
-use borrow.Author.Rules.{rules}
 use Rattle.words.specs.Words.{word}
 use Rattle.words.specs.Sums.{sum_to}
-use Rattle.words.proofs.Sums.{sum_to_zero}
 use Rattle.check_marks.specs.Inner.{Marks, run_use, slots_at}
-use Rattle.words.proofs.Answers.{when-not-true, when_not_false}
-use Rattle.check_marks.proofs.Marking.{marks_none, marks_join, clash_after, sum_more, sum_next}
 use Rattle.check_marks.proofs.mark_level.Given as goal
 
 -- what block i of the second level names, where the list of its blocks begins at byte `at`

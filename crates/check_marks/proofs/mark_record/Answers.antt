@@ -8,8 +8,6 @@ use Rattle.words.specs.Sums.{δ}
 use Rattle.check_marks.specs.Inner.{run_use}
 use Rattle.words.proofs.Answers.{when-not-true, when_not_false}
 use Rattle.check_marks.proofs.Marking.{marks_one, marks_join, clash_one, clash_after, ran, not_ran}
-use Rattle.check_marks.proofs.Uses.{one_at_most}
-use borrow.Author.Rules.{rules}
 use Rattle.check_marks.proofs.mark_record.Goals as goal
 
 -- the parts of the record: the own block and the direct slots, and then the indirect block too

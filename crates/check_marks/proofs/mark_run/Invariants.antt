@@ -1,12 +1,6 @@
-use Prim.Native.Nat.{ℕ, ◌+◌, ◌*◌, ◌-◌, ◌≤◌}
-use mathlib.Core.Path.{◌≡◌, ap, ◌∙◌, subst}
-use native.Mathlib.Omega.{arith}
-use borrow.Author.Rules.{rules}
-use Rattle.words.specs.Words.{word}
-use Rattle.words.proofs.Sums.{sum_to_zero}
+use Prim.Native.Nat.{◌+◌, ◌*◌, ◌-◌, ◌≤◌}
+use mathlib.Core.Path.{◌≡◌}
 use Rattle.check_marks.specs.Inner.{Marks, run_use}
-use Rattle.words.proofs.Answers.{when-not-true, when_not_false}
-use Rattle.check_marks.proofs.Marking.{marks_none, marks_more, clash, count-more, count_next}
 use Rattle.check_marks.proofs.mark_run.Given as goal
 
 abbrev pub invariant-loop-j : goal.invariant-loop-j

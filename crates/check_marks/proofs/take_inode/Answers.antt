@@ -5,7 +5,6 @@ use Rattle.check_marks.specs.Inner.{record_use, indirect_use}
 use Rattle.words.proofs.Answers.{when-not-true, when_not_false}
 use Rattle.check_marks.proofs.Marking.{marks_join, marked_inside, clash_le, clash_after, did_after}
 use Rattle.check_marks.proofs.Uses.{owns_head, record_indirect, record_double}
-use borrow.Author.Rules.{rules}
 use Rattle.check_marks.proofs.take_inode.Goals as goal
 
 pub returns-then-not-mark_record : goal.returns-then-not-mark_record

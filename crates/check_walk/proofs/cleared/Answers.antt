@@ -1,7 +1,6 @@
-use mathlib.Core.Path.{sym, ◌∙◌}
+use mathlib.Core.Path.{◌∙◌}
 use Prim.Native.Nat.{◌*◌}
 use native.Mathlib.Omega.{arith}
-use borrow.Author.Rules.{rules}
 use Rattle.check_walk.proofs.Clearing.{part_long, part_zero, zeros_twice}
 use Rattle.check_walk.proofs.cleared.Goals as goal
 

@@ -1,6 +1,5 @@
 use mathlib.Core.Path.{◌∙◌, sym, ap}
 use native.Mathlib.Omega.{arith}
-use borrow.Author.Rules.{rules}
 use Rattle.card_layout.specs.Sizes.{maps_for}
 use Rattle.card_layout.specs.declared.superblock.SuperBlock.{SuperBlock}
 use Rattle.check_walk.proofs.sized.Goals as goal

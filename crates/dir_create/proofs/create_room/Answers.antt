@@ -1,12 +1,10 @@
 use mathlib.Core.Path.{sym, ap, ◌∙◌}
 use Prim.Native.Nat.{ℕ}
-use native.Mathlib.Omega.{arith}
 use Rattle.dir_answers.specs.Answers.{the_inode, room_for}
 use Rattle.dir_answers.specs.declared.Acted.TheVariants.{Done}
 use Rattle.dir_answers.proofs.Refused.{plain_refused}
 use Rattle.dir_answers.proofs.Tests.{room_plain}
 use Rattle.dir_create.proofs.CreateLaws.{room_links, room_short, room_fits}
-use borrow.Author.Rules.{rules}
 use Rattle.dir_create.proofs.create_room.Goals as goal
 
 pub returns-then-links_full : goal.returns-then-links_full

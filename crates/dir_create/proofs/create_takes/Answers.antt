@@ -1,7 +1,5 @@
 use native.Mathlib.Omega.{arith}
-use borrow.Author.Tests.{eq-eqb, ne_eqb}
 use Rattle.dir_answers.proofs.Heads.{needs_small}
-use borrow.Author.Rules.{rules}
 use Rattle.dir_create.proofs.create_takes.Goals as goal
 
 pub overflow_add-result : goal.overflow_add-result

@@ -1,7 +1,6 @@
 use mathlib.Core.Path.{sym, ◌∙◌}
 use Rattle.card_map.specs.declared.FreeBlock.TheVariants.{At, Nothing}
 use Rattle.file_blocks.proofs.Growth.{next_free_is}
-use borrow.Author.Rules.{rules}
 use Rattle.dir_create.proofs.fresh_inode.Goals as goal
 
 pub returns-in-At : goal.returns-in-At

@@ -1,10 +1,7 @@
 use mathlib.Core.Path.{sym, ◌∙◌}
 use native.Mathlib.Omega.{arith}
-use Rattle.card_layout.specs.Inode.{decoded}
 use Rattle.dir_answers.proofs.Ready.{readable_ready}
-use Rattle.dir_answers.proofs.Heads.{dir_good}
 use Rattle.dir_create.proofs.CreateLaws.{create_no_dir}
-use borrow.Author.Rules.{rules}
 use Rattle.dir_create.proofs.judge_create.Goals as goal
 
 pub dir_head-requires : goal.dir_head-requires

@@ -5,7 +5,6 @@ use Rattle.dir_answers.proofs.Tests.{new_plain}
 use Rattle.dir_answers.proofs.Ready.{sizes_whole}
 use Rattle.dir_answers.proofs.Heads.{head_small}
 use Rattle.dir_create.proofs.CreateLaws.{create_name, create_kind, create_rest_lem}
-use borrow.Author.Rules.{rules}
 use Rattle.dir_create.proofs.judge_in.Goals as goal
 
 pub returns-in_default : goal.returns-in_default

@@ -1,6 +1,5 @@
 use mathlib.Core.Path.{sym, ◌∙◌}
 use Rattle.dir_create.proofs.CreateLaws.{made_dir_lem, made_file_lem}
-use borrow.Author.Rules.{rules}
 use Rattle.dir_create.proofs.make.Goals as goal
 
 pub returns-then-kind-eq2 : goal.returns-then-kind-eq2

@@ -1,7 +1,6 @@
 use Prim.Native.Nat.{◌<◌}
 use native.Mathlib.Omega.{arith}
 use Rattle.file_blocks.proofs.Growth.{next_free_below}
-use Rattle.dir_entries.specs.Inner.{CanAppend}
 use Rattle.dir_create.specs.Create.{made_dir}
 use borrow.Author.Rules.{rules}
 use Rattle.dir_create.proofs.make_dir.Goals as goal

@@ -1,5 +1,4 @@
 use Rattle.dir_create.specs.Create.{empty_dir}
-use borrow.Author.Rules.{rules}
 use Rattle.dir_create.proofs.make_empty.Goals as goal
 
 pub returns : goal.returns

@@ -1,6 +1,5 @@
 use mathlib.Core.Path.{◌∙◌}
 use Rattle.dir_create.proofs.CreateLaws.{next_same, taken_same}
-use borrow.Author.Rules.{rules}
 use Rattle.dir_create.proofs.take_first.Goals as goal
 
 pub returns : goal.returns

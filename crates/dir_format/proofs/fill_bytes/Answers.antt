@@ -1,12 +1,9 @@
-use mathlib.Core.Path.{◌≡◌, refl, ap, ◌∙◌}
-use Prim.Native.Nat.{ℕ, ◌*◌, ◌-◌, ◌≤◌}
+use mathlib.Core.Path.{refl}
 use native.Mathlib.Omega.{arith}
-use borrow.Author.Rules.{rules}
-use lib.ListN.{length, length-set}
-use Rattle.words.specs.Words.{Bytes}
+use lib.ListN.{length-set}
 use Rattle.words.proofs.Numbers.{bytes_set}
 use Rattle.words.proofs.Runs.{turns_none}
-use Rattle.dir_format.proofs.Filling.{bits_set, byte_more}
+use Rattle.dir_format.proofs.Filling.{byte_more}
 use Rattle.dir_format.proofs.fill_bytes.Goals as goal
 
 pub loop-j-init : goal.loop-j-init

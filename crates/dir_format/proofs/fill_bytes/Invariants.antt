@@ -1,12 +1,8 @@
-use mathlib.Core.Path.{◌≡◌, refl, ap, ◌∙◌}
-use Prim.Native.Nat.{ℕ, ◌*◌, ◌-◌, ◌≤◌}
-use native.Mathlib.Omega.{arith}
-use borrow.Author.Rules.{rules}
-use lib.ListN.{length, length-set}
+use mathlib.Core.Path.{◌≡◌}
+use Prim.Native.Nat.{◌*◌, ◌-◌, ◌≤◌}
+use lib.ListN.{length}
 use Rattle.words.specs.Words.{Bytes}
-use Rattle.words.proofs.Numbers.{bytes_set}
-use Rattle.words.proofs.Runs.{turns_none}
-use Rattle.dir_format.proofs.Filling.{bits_set, byte_more}
+use Rattle.dir_format.proofs.Filling.{bits_set}
 use Rattle.dir_format.proofs.fill_bytes.Given as goal
 
 abbrev pub invariant-loop-j : goal.invariant-loop-j

@@ -6,7 +6,6 @@ use Rattle.dir_format.specs.Format.{format_card, formatted}
 use Rattle.dir_answers.specs.Answers.{acted_no}
 use Rattle.dir_answers.proofs.Refused.{if_done_lem, if_refused, plain_refused}
 use Rattle.dir_format.proofs.FormatLaws.{format_room, format_plain}
-use borrow.Author.Rules.{rules}
 use Rattle.dir_format.proofs.format.Goals as goal
 
 pub returns-in_default : goal.returns-in_default

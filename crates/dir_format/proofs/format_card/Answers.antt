@@ -1,5 +1,4 @@
 use Rattle.dir_format.specs.Format.{formatted}
-use borrow.Author.Rules.{rules}
 use Rattle.dir_format.proofs.format_card.Goals as goal
 
 pub returns : goal.returns

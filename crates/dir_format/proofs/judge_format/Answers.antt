@@ -4,7 +4,6 @@ use native.Mathlib.Omega.{arith}
 use Rattle.card_layout.specs.Sizes.{blocks_for}
 use Rattle.file_blocks.proofs.Picks.{pick_yes, pick_no}
 use Rattle.dir_format.specs.Format.{format_answer}
-use borrow.Author.Rules.{rules}
 use Rattle.dir_format.proofs.judge_format.Goals as goal
 
 pub returns-then-space-gt-MAX_SPACE : goal.returns-then-space-gt-MAX_SPACE

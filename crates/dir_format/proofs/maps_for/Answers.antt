@@ -1,6 +1,5 @@
 use Rattle.card_layout.specs.Sizes.{maps_for}
 use native.Mathlib.Omega.{arith}
-use borrow.Author.Rules.{rules}
 use Rattle.dir_format.proofs.maps_for.Goals as goal
 
 pub returns : goal.returns

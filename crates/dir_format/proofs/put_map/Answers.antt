@@ -1,5 +1,4 @@
 use Rattle.dir_format.specs.Format.{fresh_map}
-use borrow.Author.Rules.{rules}
 use Rattle.dir_format.proofs.put_map.Goals as goal
 
 pub returns : goal.returns

@@ -1,6 +1,5 @@
 use Rattle.card_layout.specs.Sizes.{first_after_map}
 use native.Mathlib.Omega.{arith}
-use borrow.Author.Rules.{rules}
 use Rattle.dir_format.proofs.root_block.Goals as goal
 
 pub returns : goal.returns

@@ -1,8 +1,6 @@
-use mathlib.Core.Path.{◌≡◌, ap, ◌∙◌}
-use mathlib.Core.List.{List}
+use mathlib.Core.Path.{ap, ◌∙◌}
 use Prim.Native.Nat.{◌*◌, ◌/◌, ◌+◌}
 use native.Mathlib.Omega.{arith}
-use borrow.Author.Rules.{rules}
 use Rattle.dir_format.proofs.Filling.{bits_set, goes_on}
 use Rattle.dir_format.proofs.set_bits.Goals as goal
 

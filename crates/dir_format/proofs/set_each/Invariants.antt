@@ -1,11 +1,8 @@
-use mathlib.Core.Path.{◌≡◌, refl, ◌∙◌}
+use mathlib.Core.Path.{◌≡◌}
 use mathlib.Core.List.{List}
 use Prim.Native.Nat.{ℕ, ◌-◌, ◌≤◌}
-use native.Mathlib.Omega.{arith}
-use borrow.Author.Rules.{rules}
 use lib.ListN.{length}
 use Rattle.words.specs.Runs.{turns}
-use Rattle.words.proofs.Runs.{turns_none, turns_more}
 use Rattle.card_map.specs.Bits.{set_bit}
 use Rattle.dir_format.proofs.set_each.Given as goal
 

@@ -5,7 +5,6 @@ use Rattle.dir_answers.proofs.Tests.{new_plain}
 use Rattle.dir_answers.proofs.Ready.{sizes_whole, readable_ready}
 use Rattle.dir_answers.proofs.Heads.{head_small}
 use Rattle.dir_link.proofs.LinkLaws.{link_name, link_bad_kind, link_rest_lem}
-use borrow.Author.Rules.{rules}
 use Rattle.dir_link.proofs.judge_in.Goals as goal
 
 pub returns-in_default : goal.returns-in_default

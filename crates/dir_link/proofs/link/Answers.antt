@@ -9,7 +9,6 @@ use Rattle.dir_answers.proofs.Refused.{Refused, plain_refused}
 use Rattle.dir_answers.proofs.Ready.{sizes_whole, below_ready, readable_ready}
 use Rattle.dir_answers.proofs.Heads.{head_small}
 use Rattle.dir_link.proofs.LinkLaws.{link_plain, linked_name, linked_few, link_refused, link_bad_parent, link_bad_inode, link_done}
-use borrow.Author.Rules.{rules}
 use Rattle.dir_link.proofs.link.Goals as goal
 
 pub returns-in_default : goal.returns-in_default

@@ -1,10 +1,8 @@
 use mathlib.Core.Path.{sym, ap, ◌∙◌}
 use Prim.Native.Nat.{ℕ}
-use native.Mathlib.Omega.{arith}
 use Rattle.dir_answers.specs.Answers.{room_for}
 use Rattle.dir_answers.specs.declared.Acted.TheVariants.{Done}
 use Rattle.dir_link.proofs.LinkLaws.{link_dir, link_full, link_space}
-use borrow.Author.Rules.{rules}
 use Rattle.dir_link.proofs.link_room.Goals as goal
 
 pub returns-then-is_dir : goal.returns-then-is_dir

@@ -1,5 +1,4 @@
 use Rattle.dir_link.specs.Link.{linked}
-use borrow.Author.Rules.{rules}
 use Rattle.dir_link.proofs.put_link.Goals as goal
 
 pub returns : goal.returns

@@ -4,7 +4,6 @@ use Rattle.dir_answers.proofs.Refused.{Refused, plain_refused}
 use Rattle.dir_answers.proofs.Ready.{readable_ready}
 use Rattle.dir_answers.proofs.Dirs.{entry_inside}
 use Rattle.dir_look.proofs.LookLaws.{entry_within, entry_plain, entry_refused, entry_done}
-use borrow.Author.Rules.{rules}
 use Rattle.dir_look.proofs.entry.Goals as goal
 
 pub returns-in_default : goal.returns-in_default

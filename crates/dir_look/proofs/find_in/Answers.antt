@@ -7,7 +7,6 @@ use Rattle.dir_answers.proofs.Ready.{readable_ready}
 use Rattle.dir_answers.proofs.Heads.{head_is}
 use Rattle.dir_answers.proofs.Dirs.{entry_inside, named_is}
 use Rattle.dir_look.proofs.LookLaws.{find_none, find_there}
-use borrow.Author.Rules.{rules}
 use Rattle.dir_look.proofs.find_in.Goals as goal
 
 pub returns-then-k-h : goal.returns-then-k-h

@@ -4,7 +4,6 @@ use Rattle.card_layout.specs.Inode.{decoded}
 use Rattle.dir_answers.proofs.Ready.{readable_ready}
 use Rattle.dir_answers.proofs.Heads.{head_is, dir_good}
 use Rattle.dir_look.proofs.LookLaws.{entry_no_dir, entry_none, entry_there}
-use borrow.Author.Rules.{rules}
 use Rattle.dir_look.proofs.judge_entry.Goals as goal
 
 pub dir_head-requires : goal.dir_head-requires

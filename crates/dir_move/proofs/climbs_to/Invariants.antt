@@ -1,12 +1,8 @@
-use mathlib.Core.Path.{◌≡◌, refl, sym, ap, ◌∙◌, subst}
-use Prim.Native.Nat.{ℕ, ◌-◌, ◌≤◌}
-use native.Mathlib.Omega.{arith}
-use borrow.Author.Rules.{rules}
+use mathlib.Core.Path.{◌≡◌}
+use Prim.Native.Nat.{◌≤◌}
 use Rattle.card_layout.specs.Inode.{kind}
 use Rattle.card_rules.specs.Whole.{Reached}
 use Rattle.dir_move.specs.Move.{climbs}
-use Rattle.dir_answers.proofs.Ready.{readable_ready, parent_reached}
-use Rattle.dir_move.proofs.Climbing.{climbs_here, climbs_root, climbs_on, climbs_spent, up_dir, up_inside}
 use Rattle.dir_move.proofs.climbs_to.Given as goal
 
 abbrev pub invariant-loop-left : goal.invariant-loop-left

@@ -1,11 +1,7 @@
-use mathlib.Core.Path.{sym, ◌∙◌}
 use native.Mathlib.Omega.{arith}
-use Rattle.card_layout.specs.Inode.{decoded}
 use Rattle.dir_answers.proofs.Ready.{sizes_whole, readable_ready}
 use Rattle.dir_answers.proofs.Heads.{head_small}
-use Rattle.dir_answers.proofs.Refused.{of_good, of_bad}
 use Rattle.dir_answers.proofs.Dirs.{dir_kind, entry_inside, named_reached}
-use borrow.Author.Rules.{rules}
 use Rattle.dir_move.proofs.judge_child.Goals as goal
 
 pub entry_number-c-requires : goal.entry_number-c-requires

@@ -6,7 +6,6 @@ use Rattle.dir_answers.specs.declared.Placed.TheVariants as P
 use Rattle.dir_answers.proofs.Refused.{if_refused, plain_refused}
 use Rattle.dir_answers.proofs.Tests.{new_plain}
 use Rattle.dir_move.proofs.MoveLaws.{move_name, move_rest}
-use borrow.Author.Rules.{rules}
 use Rattle.dir_move.proofs.judge_in.Goals as goal
 
 pub returns-in_default : goal.returns-in_default

@@ -5,7 +5,6 @@ use Rattle.dir_answers.specs.declared.Acted.{Acted}
 use Rattle.dir_answers.proofs.Heads.{head_is}
 use Rattle.dir_answers.proofs.Dirs.{dir_kind}
 use Rattle.dir_move.proofs.MoveLaws.{source_none, source_same, source_child}
-use borrow.Author.Rules.{rules}
 use Rattle.dir_move.proofs.judge_source.Goals as goal
 
 pub returns-then-k-s : goal.returns-then-k-s

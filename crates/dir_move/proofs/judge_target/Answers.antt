@@ -1,13 +1,10 @@
 use mathlib.Core.Path.{sym, ap, ◌∙◌}
 use native.Mathlib.Omega.{arith}
-use Rattle.card_layout.specs.Inode.{decoded}
 use Rattle.dir_entries.specs.Entries.{where_is}
 use Rattle.dir_answers.specs.Inner.{placed}
 use Rattle.dir_answers.specs.declared.Acted.{Acted}
 use Rattle.dir_answers.proofs.Ready.{readable_ready}
-use Rattle.dir_answers.proofs.Heads.{dir_good}
 use Rattle.dir_move.proofs.MoveLaws.{move_dots, move_no_target}
-use borrow.Author.Rules.{rules}
 use Rattle.dir_move.proofs.judge_target.Goals as goal
 
 pub returns-then-is_dots : goal.returns-then-is_dots

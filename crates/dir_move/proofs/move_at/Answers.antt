@@ -2,7 +2,6 @@ use mathlib.Core.Path.{sym, ◌∙◌}
 use Rattle.dir_move.specs.Move.{moved}
 use Rattle.dir_answers.proofs.Refused.{held, failed}
 use borrow.Author.Tests.{eq-eqb, ne_eqb}
-use borrow.Author.Rules.{rules}
 use Rattle.dir_move.proofs.move_at.Goals as goal
 
 pub returns-then-p-t : goal.returns-then-p-t

@@ -1,5 +1,4 @@
 use Rattle.dir_move.specs.Move.{moved_file}
-use borrow.Author.Rules.{rules}
 use Rattle.dir_move.proofs.move_file.Goals as goal
 
 pub returns : goal.returns

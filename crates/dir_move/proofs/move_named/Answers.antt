@@ -3,7 +3,6 @@ use native.Mathlib.Omega.{arith}
 use Rattle.dir_answers.proofs.Ready.{readable_ready}
 use Rattle.dir_answers.proofs.Dirs.{entry_inside, named_reached}
 use Rattle.dir_move.proofs.MoveLaws.{at_bad_source, at_bad_target, at_bad_child, at_good, move_ready}
-use borrow.Author.Rules.{rules}
 use Rattle.dir_move.proofs.move_named.Goals as goal
 
 pub decode-requires : goal.decode-requires

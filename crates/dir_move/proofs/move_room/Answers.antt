@@ -3,7 +3,6 @@ use Prim.Native.Nat.{ℕ}
 use Rattle.dir_answers.specs.Answers.{room_for}
 use Rattle.dir_answers.specs.declared.Acted.TheVariants.{Done}
 use Rattle.dir_move.proofs.MoveLaws.{room_dir, room_file}
-use borrow.Author.Rules.{rules}
 use Rattle.dir_move.proofs.move_room.Goals as goal
 
 pub returns-then-is_dir : goal.returns-then-is_dir

@@ -1,5 +1,4 @@
 use Rattle.dir_move.specs.Move.{up_put}
-use borrow.Author.Rules.{rules}
 use Rattle.dir_move.proofs.put_up.Goals as goal
 
 pub returns : goal.returns

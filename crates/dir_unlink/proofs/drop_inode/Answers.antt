@@ -1,5 +1,4 @@
 use Rattle.dir_unlink.specs.Unlink.{dropped}
-use borrow.Author.Rules.{rules}
 use Rattle.dir_unlink.proofs.drop_inode.Goals as goal
 
 pub returns : goal.returns

@@ -8,7 +8,6 @@ use Rattle.dir_answers.proofs.Ready.{readable_ready}
 use Rattle.dir_answers.proofs.Heads.{head_is}
 use Rattle.dir_answers.proofs.Dirs.{dir_kind, entry_inside, named_reached, named_is}
 use Rattle.dir_unlink.proofs.UnlinkLaws.{unlink_dots, unlink_none, unlink_rest}
-use borrow.Author.Rules.{rules}
 use Rattle.dir_unlink.proofs.judge_in.Goals as goal
 
 pub returns-then-is_dots : goal.returns-then-is_dots

@@ -1,10 +1,7 @@
 use mathlib.Core.Path.{refl, sym, ◌∙◌}
 use native.Mathlib.Omega.{arith}
-use Rattle.card_layout.specs.Inode.{decoded}
 use Rattle.dir_answers.proofs.Ready.{readable_ready}
-use Rattle.dir_answers.proofs.Heads.{dir_good}
 use Rattle.dir_unlink.proofs.UnlinkLaws.{unlink_no_dir}
-use borrow.Author.Rules.{rules}
 use Rattle.dir_unlink.proofs.judge_unlink.Goals as goal
 
 pub dir_head-requires : goal.dir_head-requires

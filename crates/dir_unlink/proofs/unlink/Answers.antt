@@ -4,7 +4,6 @@ use Rattle.dir_entries.specs.Entries.{where_is}
 use Rattle.dir_answers.proofs.Refused.{placed_at, placed_refused, plain_done}
 use Rattle.dir_unlink.specs.Unlink.{unlink_answer, unlinked_at}
 use Rattle.dir_unlink.proofs.UnlinkLaws.{unlink_asks, unlink_plain, unlink_refused, unlink_done}
-use borrow.Author.Rules.{rules}
 use Rattle.dir_unlink.proofs.unlink.Goals as goal
 
 pub unlink_named-requires : goal.unlink_named-requires

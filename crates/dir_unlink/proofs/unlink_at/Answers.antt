@@ -2,7 +2,6 @@ use mathlib.Core.Path.{sym, ◌∙◌}
 use Rattle.dir_unlink.specs.Unlink.{links_left, unlinked}
 use Rattle.dir_answers.proofs.Refused.{held, failed}
 use borrow.Author.Tests.{eq-eqb, ne_eqb}
-use borrow.Author.Rules.{rules}
 use Rattle.dir_unlink.proofs.unlink_at.Goals as goal
 
 pub returns-then-v-ne0 : goal.returns-then-v-ne0

@@ -3,7 +3,6 @@ use native.Mathlib.Omega.{arith}
 use Rattle.dir_answers.proofs.Ready.{readable_ready}
 use Rattle.dir_answers.proofs.Dirs.{entry_inside}
 use Rattle.dir_unlink.proofs.UnlinkLaws.{unlink_reached, unlink_ready, at_bad_parent, at_bad_child, at_good}
-use borrow.Author.Rules.{rules}
 use Rattle.dir_unlink.proofs.unlink_named.Goals as goal
 
 pub decode-requires : goal.decode-requires

@@ -3,7 +3,6 @@ use lib.Bits.{bit_and}
 use Rattle.words.specs.Words.{Bytes}
 use Rattle.words.proofs.Answers.{when-eqb}
 use Rattle.utf8.proofs.Groups.{mask, mask_ascii, ascii_mask}
-use borrow.Author.Rules.{rules}
 use Rattle.utf8.proofs.ascii.Goals as goal
 
 pub returns : goal.returns

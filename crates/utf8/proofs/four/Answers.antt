@@ -2,7 +2,6 @@ use mathlib.Core.Path.{sym, ◌∙◌}
 use mathlib.Core.Bool.{◌&&◌}
 use Rattle.utf8.specs.Inner.{within, tail, second, four}
 use Rattle.utf8.proofs.Tests.{and_on, and_off}
-use borrow.Author.Rules.{rules}
 use Rattle.utf8.proofs.four.Goals as goal
 
 pub returns-then-tail : goal.returns-then-tail

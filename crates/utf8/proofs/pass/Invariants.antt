@@ -1,10 +1,6 @@
-use Prim.Native.Nat.{◌+◌, ◌-◌}
-use mathlib.Core.Path.{◌≡◌, subst}
-use native.Mathlib.Omega.{arith}
+use Prim.Native.Nat.{◌-◌}
 use lib.ListN.{length}
-use Rattle.words.proofs.Answers.{when_true}
-use Rattle.utf8.specs.Inner.{Ascii, Passed}
-use Rattle.utf8.proofs.Groups.{ascii_none, ascii_join}
+use Rattle.utf8.specs.Inner.{Passed}
 use Rattle.utf8.proofs.pass.Given as goal
 
 abbrev pub invariant-loop-i : goal.invariant-loop-i

@@ -4,7 +4,6 @@ use borrow.Author.Tests.{le-ltb}
 use Rattle.words.specs.Words.{byte}
 use Rattle.utf8.specs.Inner.{two, three, four}
 use Rattle.utf8.proofs.Table.{taken_rows, taken_small}
-use borrow.Author.Rules.{rules}
 use Rattle.utf8.proofs.taken.Goals as goal
 
 pub returns-then-a-lt128 : goal.returns-then-a-lt128

@@ -1,7 +1,6 @@
 use mathlib.Core.Path.{sym, ◌∙◌}
 use Rattle.utf8.specs.Inner.{within, tail, two}
 use Rattle.utf8.proofs.Tests.{and_on, and_off}
-use borrow.Author.Rules.{rules}
 use Rattle.utf8.proofs.two.Goals as goal
 
 pub returns-then-within : goal.returns-then-within

@@ -6,7 +6,7 @@ use native.Mathlib.Omega.{arith}
 use lib.ListN.{length, take, drop, length-drop, drop_of_length-le}
 use Rattle.utf8.specs.Inner.{taken}
 use Rattle.utf8.proofs.Table.{taken_within}
-use Rattle.utf8.proofs.Text.{utf8_nil, utf8_none, Same, same_join, same_taken, same_passed}
+use Rattle.utf8.proofs.Text.{utf8_nil, utf8_none, same_join, same_taken, same_passed}
 use Rattle.utf8.proofs.valid.Goals as goal
 
 -- the part that is lent is the rest of the list

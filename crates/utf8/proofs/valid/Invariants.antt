@@ -1,12 +1,6 @@
-use mathlib.Core.List.{List}
-use lib.Seq.{take_all}
-use Prim.Native.Nat.{ℕ, ◌+◌, ◌-◌, ◌≤◌}
-use mathlib.Core.Path.{◌≡◌, sym, ap, ◌∙◌}
-use native.Mathlib.Omega.{arith}
-use lib.ListN.{length, take, drop, length-drop, drop_of_length-le}
-use Rattle.utf8.specs.Inner.{taken}
-use Rattle.utf8.proofs.Table.{taken_within}
-use Rattle.utf8.proofs.Text.{utf8_nil, utf8_none, Same, same_join, same_taken, same_passed}
+use Prim.Native.Nat.{◌-◌, ◌≤◌}
+use lib.ListN.{length}
+use Rattle.utf8.proofs.Text.{Same}
 use Rattle.utf8.proofs.valid.Given as goal
 
 abbrev pub invariant-loop-i : goal.invariant-loop-i

@@ -3,7 +3,6 @@ use mathlib.Core.Path.{◌≡◌, ap, ◌∙◌}
 use Prim.Native.Nat.{◌+◌, ◌-◌}
 use native.Mathlib.Omega.{arith}
 use Rattle.words.specs.Runs.{copied}
-use borrow.Author.Rules.{rules}
 use Rattle.words.proofs.copy.Goals as goal
 
 pub returns : goal.returns

@@ -1,6 +1,5 @@
 use Rattle.words.specs.Words.{Bytes}
 use Rattle.words.proofs.Runs.{copied_add, put_copied}
-use borrow.Author.Rules.{rules}
 use Rattle.words.proofs.copy16.Goals as goal
 
 pub returns : goal.returns

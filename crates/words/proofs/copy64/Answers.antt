@@ -1,5 +1,4 @@
 use Rattle.words.proofs.Runs.{copied_add}
-use borrow.Author.Rules.{rules}
 use Rattle.words.proofs.copy64.Goals as goal
 
 pub returns : goal.returns

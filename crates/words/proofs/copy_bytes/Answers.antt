@@ -1,12 +1,8 @@
 use Rattle.words.proofs.Runs.{puts_none, puts_more}
-use mathlib.Core.Path.{refl, ap, ◌∙◌}
-use Prim.Native.Nat.{ℕ, ◌+◌, zero-le}
+use mathlib.Core.Path.{refl}
+use Prim.Native.Nat.{zero-le}
 use lib.ListN.{length-set}
-use borrow.Author.Rules.{rules}
-use mathlib.Core.Path.{◌≡◌}
 use native.Mathlib.Omega.{arith}
-use Prim.Native.Nat.{◌≤◌, ◌-◌}
-use lib.ListN.{length}
 use Rattle.words.specs.Runs.{copied}
 use Rattle.words.proofs.copy_bytes.Goals as goal
 

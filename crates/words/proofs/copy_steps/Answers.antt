@@ -1,8 +1,7 @@
 use Rattle.words.proofs.Runs.{puts_none, copied_add, length-copied}
-use mathlib.Core.Path.{◌≡◌, refl}
-use Prim.Native.Nat.{◌+◌, ◌≤◌, ◌-◌, zero-le}
+use mathlib.Core.Path.{refl}
+use Prim.Native.Nat.{◌+◌, zero-le}
 use native.Mathlib.Omega.{arith}
-use lib.ListN.{length}
 use Rattle.words.specs.Runs.{copied}
 use Rattle.words.proofs.copy_steps.Goals as goal
 

@@ -1,7 +1,5 @@
-use Rattle.words.proofs.Runs.{puts_none, copied_add, length-copied}
-use mathlib.Core.Path.{◌≡◌, refl}
-use Prim.Native.Nat.{◌+◌, ◌≤◌, ◌-◌, zero-le}
-use native.Mathlib.Omega.{arith}
+use mathlib.Core.Path.{◌≡◌}
+use Prim.Native.Nat.{◌≤◌, ◌-◌}
 use lib.ListN.{length}
 use Rattle.words.specs.Runs.{copied}
 use Rattle.words.proofs.copy_steps.Given as goal

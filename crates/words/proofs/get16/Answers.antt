@@ -1,4 +1,3 @@
-use borrow.Author.Rules.{rules}
 use Rattle.words.specs.Words.{num}
 use native.Mathlib.Omega.{arith}
 use Rattle.words.proofs.get16.Goals as goal

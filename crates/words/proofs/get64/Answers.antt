@@ -1,6 +1,5 @@
 use native.Mathlib.Omega.{arith}
 use Rattle.words.specs.Words.{num}
-use borrow.Author.Rules.{rules}
 use Rattle.words.proofs.get64.Goals as goal
 
 pub returns : goal.returns

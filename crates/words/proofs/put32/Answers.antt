@@ -1,8 +1,5 @@
-use borrow.Author.Rules.{rules}
 use Rattle.words.specs.Words.{put_num}
-use lib.ListN.{length-set}
 use mathlib.Core.Path.{refl}
-use native.Mathlib.Omega.{arith}
 use Rattle.words.proofs.put32.Goals as goal
 
 pub returns : goal.returns

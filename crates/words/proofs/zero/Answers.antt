@@ -1,9 +1,9 @@
 use Rattle.words.proofs.Runs.{puts_none, puts_more}
-use mathlib.Core.Path.{◌≡◌, refl, ap, sym, ◌∙◌}
+use mathlib.Core.Path.{refl}
 use native.Mathlib.Omega.{arith}
-use Prim.Native.Nat.{ℕ, ◌≤◌, ◌-◌, ◌+◌, zero-le}
-use lib.ListN.{length, length-set, replicate, get_or, set, length-replicate, get_or-replicate}
-use Rattle.words.specs.Runs.{copied, zeroed}
+use Prim.Native.Nat.{zero-le}
+use lib.ListN.{length-set}
+use Rattle.words.specs.Runs.{zeroed}
 use Rattle.words.proofs.zero.Goals as goal
 
 pub loop-j-init : goal.loop-j-init

@@ -1,9 +1,7 @@
-use Rattle.words.proofs.Runs.{puts_none, puts_more}
-use mathlib.Core.Path.{◌≡◌, refl, ap, sym, ◌∙◌}
-use native.Mathlib.Omega.{arith}
-use Prim.Native.Nat.{ℕ, ◌≤◌, ◌-◌, ◌+◌, zero-le}
-use lib.ListN.{length, length-set, replicate, get_or, set, length-replicate, get_or-replicate}
-use Rattle.words.specs.Runs.{copied, zeroed}
+use mathlib.Core.Path.{◌≡◌}
+use Prim.Native.Nat.{◌≤◌, ◌-◌}
+use lib.ListN.{length}
+use Rattle.words.specs.Runs.{zeroed}
 use Rattle.words.proofs.zero.Given as goal
 
 abbrev pub invariant-loop-j : goal.invariant-loop-j

@@ -1,5 +1,4 @@
 use Rattle.card_layout.specs.Entry.{entry_of}
-use borrow.Author.Rules.{rules}
 use Rattle.card_layout.proofs.entry.entry_of.Goals as goal
 
 pub returns : goal.returns

@@ -1,12 +1,10 @@
 use Rattle.card_layout.proofs.Names.{nul_here, nul_next, nul_end, upto_take}
 use Rattle.card_layout.specs.Entry.{name_in, upto_nul}
 use lib.ListN.{length, drop, take}
-use borrow.Author.Rules.{rules}
-use borrow.Author.Tests.{eq-eqb, ne_eqb, lt-ltb, le-ltb}
+use borrow.Author.Tests.{eq-eqb, ne_eqb, lt-ltb}
 use native.Mathlib.Omega.{arith}
-use mathlib.Core.Path.{◌≡◌, refl, sym, ap, ◌∙◌}
-use mathlib.Core.List.{List}
-use Prim.Native.Nat.{ℕ, ◌≤◌, ◌<◌, ◌-◌, ◌+◌}
+use mathlib.Core.Path.{◌≡◌, ap, ◌∙◌}
+use Prim.Native.Nat.{ℕ, ◌-◌}
 use Rattle.card_layout.proofs.entry.name_of.Goals as goal
 
 pub returns-then-e-ne-DIRENT_SIZE : goal.returns-then-e-ne-DIRENT_SIZE

@@ -1,6 +1,5 @@
 use borrow.Author.Tests.{ne_eqb}
 use Rattle.card_layout.specs.Inode.{head_by}
-use borrow.Author.Rules.{rules}
 use Rattle.card_layout.proofs.inode.decode.Goals as goal
 
 pub returns-in-1 : goal.returns-in-1

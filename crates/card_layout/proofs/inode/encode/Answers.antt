@@ -1,5 +1,4 @@
 use Rattle.card_layout.specs.Inode.{encoded}
-use borrow.Author.Rules.{rules}
 use Rattle.card_layout.proofs.inode.encode.Goals as goal
 
 pub returns : goal.returns

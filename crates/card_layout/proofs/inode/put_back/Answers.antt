@@ -1,5 +1,4 @@
 use Rattle.card_layout.specs.Inode.{put_back}
-use borrow.Author.Rules.{rules}
 use Rattle.card_layout.proofs.inode.put_back.Goals as goal
 
 pub returns : goal.returns

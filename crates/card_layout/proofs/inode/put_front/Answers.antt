@@ -3,7 +3,6 @@ use mathlib.Core.Path.{ap, ◌∙◌}
 use mathlib.Core.List.{List}
 use Rattle.words.specs.Words.{put_half, put_word}
 use Rattle.card_layout.specs.Inode.{put_front}
-use borrow.Author.Rules.{rules}
 use Rattle.card_layout.proofs.inode.put_front.Goals as goal
 
 pub returns : goal.returns

@@ -1,10 +1,9 @@
 use borrow.Author.Rules.{rules}
-use lib.ListN.{length, drop, drop_of_length-le}
+use lib.ListN.{drop_of_length-le}
 use Rattle.card_layout.proofs.Words.{put_words_step}
 use Rattle.card_layout.specs.Inode.{put_words}
 use native.Mathlib.Omega.{arith}
-use mathlib.Core.Path.{◌≡◌, refl, sym, ap, ◌∙◌}
-use Prim.Native.Nat.{ℕ, ◌≤◌, ◌-◌, ◌+◌, ◌*◌}
+use mathlib.Core.Path.{sym, ◌∙◌}
 use Rattle.card_layout.proofs.inode.put_slots.Goals as goal
 
 pub loop-i-preserved : goal.loop-i-preserved

@@ -1,10 +1,7 @@
-use borrow.Author.Rules.{rules}
-use lib.ListN.{length, drop, drop_of_length-le}
-use Rattle.card_layout.proofs.Words.{put_words_step}
+use lib.ListN.{length, drop}
 use Rattle.card_layout.specs.Inode.{put_words}
-use native.Mathlib.Omega.{arith}
-use mathlib.Core.Path.{◌≡◌, refl, sym, ap, ◌∙◌}
-use Prim.Native.Nat.{ℕ, ◌≤◌, ◌-◌, ◌+◌, ◌*◌}
+use mathlib.Core.Path.{◌≡◌}
+use Prim.Native.Nat.{◌≤◌, ◌-◌, ◌+◌, ◌*◌}
 use Rattle.card_layout.proofs.inode.put_slots.Given as goal
 
 abbrev pub invariant-loop-i : goal.invariant-loop-i

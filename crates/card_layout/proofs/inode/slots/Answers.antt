@@ -1,13 +1,9 @@
-use borrow.Author.Rules.{rules}
 use Rattle.card_layout.proofs.Words.{length-words, get_or-words}
-use Rattle.words.proofs.Lists.{filled}
 use lib.Seq.{ext_get_or}
 use Rattle.card_layout.specs.Inode.{block_id}
-use Rattle.words.specs.Words.{word}
-use lib.ListN.{length, get_or}
 use native.Mathlib.Omega.{arith}
-use mathlib.Core.Path.{◌≡◌, refl, sym, ap, ◌∙◌}
-use Prim.Native.Nat.{ℕ, ◌≤◌, ◌<◌, ◌-◌, ◌+◌, ◌*◌}
+use mathlib.Core.Path.{sym, ap, ◌∙◌}
+use Prim.Native.Nat.{◌+◌, ◌*◌}
 use Rattle.card_layout.proofs.inode.slots.Goals as goal
 
 pub returns : goal.returns

@@ -1,12 +1,7 @@
-use borrow.Author.Rules.{rules}
-use Rattle.card_layout.proofs.Words.{length-words, get_or-words}
-use Rattle.words.proofs.Lists.{filled}
-use lib.Seq.{ext_get_or}
 use Rattle.card_layout.specs.Inode.{block_id}
 use Rattle.words.specs.Words.{word}
 use lib.ListN.{length, get_or}
-use native.Mathlib.Omega.{arith}
-use mathlib.Core.Path.{◌≡◌, refl, sym, ap, ◌∙◌}
+use mathlib.Core.Path.{◌≡◌}
 use Prim.Native.Nat.{ℕ, ◌≤◌, ◌<◌, ◌-◌, ◌+◌, ◌*◌}
 use Rattle.card_layout.proofs.inode.slots.Given as goal
 

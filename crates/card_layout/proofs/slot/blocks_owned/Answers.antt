@@ -1,7 +1,6 @@
 use native.Mathlib.Omega.{arith}
 use borrow.Author.Tests.{lt-ltb, le-ltb}
 use Rattle.card_layout.specs.Slots.{owned}
-use borrow.Author.Rules.{rules}
 use Rattle.card_layout.proofs.slot.blocks_owned.Goals as goal
 
 pub returns-then-b-lt12 : goal.returns-then-b-lt12

@@ -1,7 +1,6 @@
 use native.Mathlib.Omega.{arith}
 use borrow.Author.Tests.{lt-ltb, le-ltb}
 use Rattle.card_layout.specs.Slots.{seconds}
-use borrow.Author.Rules.{rules}
 use Rattle.card_layout.proofs.slot.seconds_of.Goals as goal
 
 pub returns-then-b-lt1036 : goal.returns-then-b-lt1036

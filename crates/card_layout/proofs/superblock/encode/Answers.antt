@@ -1,5 +1,4 @@
 use Rattle.card_layout.specs.Super.{super_put}
-use borrow.Author.Rules.{rules}
 use Rattle.card_layout.proofs.superblock.encode.Goals as goal
 
 pub returns : goal.returns

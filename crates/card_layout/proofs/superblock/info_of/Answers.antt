@@ -1,9 +1,5 @@
-use borrow.Author.Rules.{rules}
 use native.Mathlib.Omega.{arith}
-use mathlib.Core.Path.{◌≡◌, refl}
-use Prim.Native.Nat.{ℕ, ◌≤◌, ◌<◌, ◌-◌, ◌+◌}
-use lib.ListN.{length, get_or}
-use Rattle.words.proofs.Lists.{filled, filled_part}
+use Rattle.words.proofs.Lists.{filled_part}
 use Rattle.card_layout.proofs.superblock.info_of.Goals as goal
 
 pub returns : goal.returns

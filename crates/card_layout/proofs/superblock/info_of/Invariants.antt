@@ -1,9 +1,6 @@
-use borrow.Author.Rules.{rules}
-use native.Mathlib.Omega.{arith}
-use mathlib.Core.Path.{◌≡◌, refl}
+use mathlib.Core.Path.{◌≡◌}
 use Prim.Native.Nat.{ℕ, ◌≤◌, ◌<◌, ◌-◌, ◌+◌}
 use lib.ListN.{length, get_or}
-use Rattle.words.proofs.Lists.{filled, filled_part}
 use Rattle.card_layout.proofs.superblock.info_of.Given as goal
 
 abbrev pub invariant-loop-i : goal.invariant-loop-i

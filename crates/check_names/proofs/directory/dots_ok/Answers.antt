@@ -1,7 +1,6 @@
 use mathlib.Core.Path.{sym, ◌∙◌}
 use Rattle.words.proofs.Answers.{when-not-true, when_not_false, when-map}
 use Rattle.check_names.proofs.Scanning.{name_in}
-use borrow.Author.Rules.{rules}
 use Rattle.check_names.proofs.directory.dots_ok.Goals as goal
 
 pub returns-then-not-is_self : goal.returns-then-not-is_self

@@ -3,7 +3,6 @@ use mathlib.Core.List.{[]}
 use Rattle.card_layout.proofs.Names.{nul_here}
 use Rattle.words.proofs.Answers.{when-eqb}
 use Rattle.check_names.proofs.Scanning.{left_nil, left_cons, to_cons}
-use borrow.Author.Rules.{rules}
 use Rattle.check_names.proofs.directory.is_self.Goals as goal
 
 pub returns-then-b-ne46 : goal.returns-then-b-ne46

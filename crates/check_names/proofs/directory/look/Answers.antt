@@ -5,7 +5,6 @@ use Prim.Native.Nat.{ℕ, ◌-◌, ◌+◌, ◌*◌, ◌/◌, ◌%◌}
 use lib.ListN.{length}
 use Rattle.check_names.specs.InnerNames.{hash}
 use Rattle.check_names.proofs.Entries.{name_near}
-use borrow.Author.Rules.{rules}
 use Rattle.check_names.proofs.directory.look.Goals as goal
 
 pub returns-then-s-m : goal.returns-then-s-m

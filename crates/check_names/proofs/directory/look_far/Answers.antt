@@ -5,7 +5,6 @@ use Prim.Native.Nat.{ℕ, ◌-◌}
 use lib.ListN.{length}
 use Rattle.check_names.specs.InnerNames.{hash}
 use Rattle.check_names.proofs.Entries.{name_cut}
-use borrow.Author.Rules.{rules}
 use Rattle.check_names.proofs.directory.look_far.Goals as goal
 
 pub returns : goal.returns

@@ -1,10 +1,7 @@
-use native.Mathlib.Omega.{arith}
-use mathlib.Core.Path.{◌≡◌, refl}
-use mathlib.Core.Bool.{not, false}
-use Prim.Native.Nat.{◌≤◌, ◌-◌, ◌+◌}
+use mathlib.Core.Path.{◌≡◌}
+use Prim.Native.Nat.{◌≤◌, ◌-◌}
 use lib.ListN.{length}
-use Rattle.words.proofs.Answers.{when-not-true, when_not_false}
-use Rattle.check_names.proofs.Chaining.{Before, before_none, before_more, before_all}
+use Rattle.check_names.proofs.Chaining.{Before}
 use Rattle.check_names.proofs.directory.names_ok.Given as goal
 
 abbrev pub invariant-loop-lo : goal.invariant-loop-lo

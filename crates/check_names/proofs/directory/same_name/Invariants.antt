@@ -1,6 +1,5 @@
-use native.Mathlib.Omega.{arith}
 use Prim.Native.Nat.{◌≤◌, ◌-◌}
-use Rattle.check_names.proofs.Scanning.{Alike, alike_none, alike_end, alike_nul, alike_more, alike_not}
+use Rattle.check_names.proofs.Scanning.{Alike}
 use Rattle.check_names.proofs.directory.same_name.Given as goal
 
 abbrev pub invariant-loop-i : goal.invariant-loop-i

@@ -1,12 +1,9 @@
 use mathlib.Core.List.{[]}
 use native.Mathlib.Omega.{arith}
 use native.Mathlib.Nat.{mod-lt}
-use mathlib.Core.Path.{◌≡◌, refl, ap, sym, ◌∙◌}
-use mathlib.Core.Logic.{⊎_elim}
-use Prim.Native.Nat.{◌≤◌, ◌<◌, ◌-◌, ◌+◌}
+use mathlib.Core.Path.{◌≡◌, ap, sym, ◌∙◌}
 use lib.ListN.{length}
 use Rattle.card_layout.proofs.Names.{nul_here, nul_next, nul_end}
-use Rattle.check_names.specs.InnerNames.{hash, hash_on}
 use Rattle.check_names.proofs.Scanning.{left, hash_none, hash_next}
 use Rattle.check_names.proofs.directory.scan.Goals as goal
 use Rattle.check_names.proofs.directory.scan.Goals.{else-loop-i-test, then-loop-i-test+then-e-i-eq0}
@@ -24,7 +21,7 @@ returns c =
     let l = c.loop-i in
     let none : left e l.i ≡ [] =
     elim c.loop-i-test.branch [
-      else-loop-i-test w ↦ nul_end e l.i (omega (arith, w.loop-i-test.false))
+      | else-loop-i-test w ↦ nul_end e l.i (omega (arith, w.loop-i-test.false))
       | then-loop-i-test+then-e-i-eq0 w ↦ nul_here e l.i (omega (arith, w.loop-i-test.true)) w.if-e-i-eq0.true
     ] in
     let z = ap length none in

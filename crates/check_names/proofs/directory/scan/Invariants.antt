@@ -1,13 +1,8 @@
-use mathlib.Core.List.{[]}
-use native.Mathlib.Omega.{arith}
-use native.Mathlib.Nat.{mod-lt}
-use mathlib.Core.Path.{◌≡◌, refl, ap, sym, ◌∙◌}
-use mathlib.Core.Logic.{⊎_elim}
+use mathlib.Core.Path.{◌≡◌}
 use Prim.Native.Nat.{◌≤◌, ◌<◌, ◌-◌, ◌+◌}
 use lib.ListN.{length}
-use Rattle.card_layout.proofs.Names.{nul_here, nul_next, nul_end}
 use Rattle.check_names.specs.InnerNames.{hash, hash_on}
-use Rattle.check_names.proofs.Scanning.{left, hash_none, hash_next}
+use Rattle.check_names.proofs.Scanning.{left}
 use Rattle.check_names.proofs.directory.scan.Given as goal
 
 abbrev pub invariant-loop-i : goal.invariant-loop-i

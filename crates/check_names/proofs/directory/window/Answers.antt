@@ -1,15 +1,13 @@
 use native.Mathlib.Omega.{arith}
-use native.Mathlib.Nat.{mod-lt}
 use mathlib.Core.Path.{◌≡◌, refl, ap, sym, ◌∙◌, subst}
-use mathlib.Core.Logic.{⊎_elim}
 use mathlib.Core.List.{List}
-use Prim.Native.Nat.{ℕ, ◌≤◌, ◌-◌, ◌+◌, ◌%◌, min}
+use Prim.Native.Nat.{ℕ, ◌+◌}
 use lib.ListN.{length}
-use Rattle.words.proofs.Answers.{when-not-true, when_not_false}
-use Rattle.card_rules.specs.View.{name, data_at}
-use Rattle.check_names.specs.InnerNames.{hash, Chains, Alone, Window}
+use Rattle.words.proofs.Answers.{when_not_false}
+use Rattle.card_rules.specs.View.{name}
+use Rattle.check_names.specs.InnerNames.{hash, Chains, Alone}
 use Rattle.check_names.proofs.Scanning.{name_fits}
-use Rattle.check_names.proofs.Chaining.{chains_none, chains_put, window_none, window_more, names_alone}
+use Rattle.check_names.proofs.Chaining.{chains_none, chains_put, window_none, window_more}
 use Rattle.check_names.proofs.directory.window.Goals as goal
 use Rattle.check_names.proofs.directory.window.Goals.{then-k-m, else-k-m}
 
@@ -35,28 +33,28 @@ loop-j-preserved c =
     let fits = name_fits img n l.j (omega (arith, s.ensures.0)) (omega (arith, s.ensures.0)) in
     let more = window_more img n a.lo a.m l.k l.j l.invariant.1 l.invariant.3 l.invariant.5 fits alone in
     elim c.if-k-m.branch [
-      then-k-m w ↦ (let t : a.lo + l.k ≡ l.j = omega (arith, w.if-k-m.true) in
-    let v : s.result.hash ≡ hash (name img n (a.lo + l.k)) =
-    s.ensures.1 ∙ ap (λ (x : ℕ). hash (name img n x)) (sym t) in (
-      omega (arith, ap length w.w-is, w.put.auto.w, l.invariant.0),
-      omega (arith, l.invariant),
-      omega (arith, turn),
-      omega (arith, w.k-is, w.if-k-m.true, l.invariant),
-      subst (λ (x : ℕ). Chains img n c.if-k-m.w a.h a.lo x) (sym w.k-is)
-          (subst (λ (x : List ℕ). Chains img n x a.h a.lo (l.k + 1)) (sym w.w-is)
-          (chains_put img n l.w _ a.h a.lo l.k _ l.invariant.4 p.0 (omega (arith, w.if-k-m.true)) (omega (arith, w.if-k-m.true, l.invariant.0, c.zero.auto.w)) v
-          w.put.ensures)),
-      more,
-      c.get_near-b.ensures,
-    ))
+      | then-k-m w ↦ (let t : a.lo + l.k ≡ l.j = omega (arith, w.if-k-m.true) in
+          let v : s.result.hash ≡ hash (name img n (a.lo + l.k)) =
+          s.ensures.1 ∙ ap (λ (x : ℕ). hash (name img n x)) (sym t) in (
+            omega (arith, ap length w.w-is, w.put.auto.w, l.invariant.0),
+            omega (arith, l.invariant),
+            omega (arith, turn),
+            omega (arith, w.k-is, w.if-k-m.true, l.invariant),
+            subst (λ (x : ℕ). Chains img n c.if-k-m.w a.h a.lo x) (sym w.k-is)
+                (subst (λ (x : List ℕ). Chains img n x a.h a.lo (l.k + 1)) (sym w.w-is)
+                (chains_put img n l.w _ a.h a.lo l.k _ l.invariant.4 p.0 (omega (arith, w.if-k-m.true)) (omega (arith, w.if-k-m.true, l.invariant.0, c.zero.auto.w)) v
+                w.put.ensures)),
+            more,
+            c.get_near-b.ensures,
+          ))
       | else-k-m w ↦ (
-      omega (arith, ap length w.w-is, l.invariant.0),
-      omega (arith, l.invariant),
-      omega (arith, turn),
-      omega (arith, w.k-is, w.if-k-m.false, l.invariant),
-      subst (λ (x : ℕ). Chains img n c.if-k-m.w a.h a.lo x) (sym w.k-is)
-          (subst (λ (x : List ℕ). Chains img n x a.h a.lo l.k) (sym w.w-is) l.invariant.4),
-      more,
-      c.get_near-b.ensures,
-    )
+        omega (arith, ap length w.w-is, l.invariant.0),
+        omega (arith, l.invariant),
+        omega (arith, turn),
+        omega (arith, w.k-is, w.if-k-m.false, l.invariant),
+        subst (λ (x : ℕ). Chains img n c.if-k-m.w a.h a.lo x) (sym w.k-is)
+            (subst (λ (x : List ℕ). Chains img n x a.h a.lo l.k) (sym w.w-is) l.invariant.4),
+        more,
+        c.get_near-b.ensures,
+      )
     ]

@@ -1,15 +1,8 @@
-use native.Mathlib.Omega.{arith}
-use native.Mathlib.Nat.{mod-lt}
-use mathlib.Core.Path.{◌≡◌, refl, ap, sym, ◌∙◌, subst}
-use mathlib.Core.Logic.{⊎_elim}
-use mathlib.Core.List.{List}
-use Prim.Native.Nat.{ℕ, ◌≤◌, ◌-◌, ◌+◌, ◌%◌, min}
+use mathlib.Core.Path.{◌≡◌}
+use Prim.Native.Nat.{◌≤◌, ◌-◌, min}
 use lib.ListN.{length}
-use Rattle.words.proofs.Answers.{when-not-true, when_not_false}
-use Rattle.card_rules.specs.View.{name, data_at}
-use Rattle.check_names.specs.InnerNames.{hash, Chains, Alone, Window}
-use Rattle.check_names.proofs.Scanning.{name_fits}
-use Rattle.check_names.proofs.Chaining.{chains_none, chains_put, window_none, window_more, names_alone}
+use Rattle.card_rules.specs.View.{data_at}
+use Rattle.check_names.specs.InnerNames.{Chains, Window}
 use Rattle.check_names.proofs.directory.window.Given as goal
 
 abbrev pub invariant-loop-j : goal.invariant-loop-j

@@ -1,11 +1,11 @@
 use mathlib.Core.Path.{◌≡◌, refl, ap, ◌∙◌}
 use mathlib.Core.List.{List}
-use Prim.Native.Nat.{ℕ, ◌+◌, ◌≤◌, ◌-◌, zero-le}
-use lib.ListN.{length, set, length-set}
+use Prim.Native.Nat.{ℕ, ◌+◌, zero-le}
+use lib.ListN.{set, length-set}
 use native.Mathlib.Omega.{arith}
 use mathlib.Core.Path.{◌≡◌, refl}
-use Prim.Native.Nat.{◌≤◌, ◌-◌, zero-le}
-use lib.ListN.{length, length-set}
+use Prim.Native.Nat.{zero-le}
+use lib.ListN.{length-set}
 use Rattle.words.specs.Runs.{zeroed}
 use Rattle.words.proofs.Runs.{puts_none, puts_more}
 use Rattle.check_names.proofs.directory.zero.Goals as goal

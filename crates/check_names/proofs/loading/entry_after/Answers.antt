@@ -1,9 +1,7 @@
-use native.Mathlib.Omega.{arith}
 use mathlib.Core.Path.{sym, ap, ◌∙◌}
-use Prim.Native.Nat.{ℕ, ◌+◌, ◌*◌, ◌/◌, ◌%◌}
+use Prim.Native.Nat.{ℕ, ◌+◌, ◌*◌, ◌%◌}
 use Rattle.words.specs.Words.{word}
 use Rattle.check_names.proofs.Entries.{entry-word}
-use borrow.Author.Rules.{rules}
 use Rattle.check_names.proofs.loading.entry_after.Goals as goal
 
 pub returns : goal.returns

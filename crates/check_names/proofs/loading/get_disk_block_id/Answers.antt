@@ -4,11 +4,9 @@ use Prim.Native.Nat.{ℕ, ◌<◌}
 use Rattle.card_layout.specs.Inode.{count}
 use Rattle.card_layout.specs.Slots.{seconds, slot_of}
 use Rattle.card_layout.specs.declared.slot.Slot.{Slot}
-use Rattle.card_layout.specs.declared.slot.Slot.TheVariants.{Direct, Indirect, Double}
 use Rattle.card_rules.specs.View.{slot, second, data_at}
 use Rattle.card_rules.proofs.Views.{seconds_reach}
 use Rattle.check_names.proofs.Entries.{Falls, falls}
-use borrow.Author.Rules.{rules}
 use Rattle.check_names.proofs.loading.get_disk_block_id.Goals as goal
 
 -- what a slot says of the block that it is of
@@ -68,7 +66,7 @@ returns-in-Indirect c = let e = sym c.slot_of.ensures ∙ c.in-Indirect.is in rw
 
 pub returns-in-Double : goal.returns-in-Double
 unfolding data_at
-returns-in-Double c = let e = sym c.slot_of.ensures ∙ c.in-Double.is in 
+returns-in-Double c = let e = sym c.slot_of.ensures ∙ c.in-Double.is in
     let second_is : c.get32-in-Double-2.result ≡ second c.args.image.now c.args.n.0 c.in-Double.j =
     c.get32-in-Double-2.ensures ∙ ap (λ (d : ℕ). slot c.args.image.now d c.in-Double.j) c.get32-in-Double.ensures in
     rw (e, c.get32-in-Double-3.ensures, second_is)

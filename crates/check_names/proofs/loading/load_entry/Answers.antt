@@ -1,13 +1,10 @@
 use native.Mathlib.Omega.{arith}
 use mathlib.Core.Path.{◌≡◌, refl, ap, ◌∙◌}
 use mathlib.Core.List.{List}
-use Prim.Native.Nat.{ℕ, ◌+◌, ◌-◌, ◌*◌, ◌/◌, ◌%◌}
-use lib.ListN.{length, replicate}
+use Prim.Native.Nat.{ℕ, ◌+◌, ◌-◌, ◌*◌, ◌%◌}
+use lib.ListN.{replicate}
 use Rattle.words.specs.Runs.{copied}
-use Rattle.words.proofs.Runs.{length-copied}
-use Rattle.card_rules.specs.View.{data_at}
 use Rattle.check_names.proofs.Entries.{run_alone, run_pair}
-use borrow.Author.Rules.{rules}
 use Rattle.check_names.proofs.loading.load_entry.Goals as goal
 
 pub returns-then-x-lt-DIRENT_SIZE : goal.returns-then-x-lt-DIRENT_SIZE

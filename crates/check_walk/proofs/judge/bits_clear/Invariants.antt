@@ -1,7 +1,5 @@
-use mathlib.Core.Path.{◌≡◌, ◌∙◌, sym}
+use mathlib.Core.Path.{◌≡◌}
 use Prim.Native.Nat.{ℕ, ◌-◌, ◌≤◌, ◌<◌}
-use native.Mathlib.Omega.{arith}
-use borrow.Author.Count.{below_more}
 use Rattle.card_map.specs.Bits.{map_bit}
 use Rattle.check_walk.proofs.judge.bits_clear.Given as goal
 

@@ -1,8 +1,6 @@
 use mathlib.Core.Path.{◌∙◌}
 use native.Mathlib.Omega.{arith}
-use borrow.Author.Rules.{rules}
 use Rattle.check_marks.proofs.Heads.{head_links_lem}
-use Rattle.check_walk.specs.Inner.{Kept}
 use Rattle.check_walk.proofs.Visiting.{head_kids_lem}
 use Rattle.check_walk.proofs.Families.{dir_tally, kept_few}
 use Rattle.check_walk.proofs.judge.dir_links.Goals as goal

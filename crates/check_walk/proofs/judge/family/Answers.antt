@@ -1,14 +1,10 @@
-use mathlib.Core.Path.{◌≡◌, ap, ◌∙◌, sym, subst}
-use mathlib.Core.Logic.{⊎_elim}
-use Prim.Native.Nat.{ℕ, ◌+◌, ◌-◌, ◌≤◌, ◌<◌}
+use mathlib.Core.Path.{◌∙◌, sym, subst}
+use Prim.Native.Nat.{ℕ, ◌+◌}
 use native.Mathlib.Omega.{arith}
-use borrow.Author.Rules.{rules}
 use borrow.Author.Tests.{eqb-true, eqb-false}
 use Rattle.card_layout.specs.Inode.{kind}
-use Rattle.card_rules.specs.View.{kids, entry, data_at}
 use Rattle.check_names.proofs.Entries.{nowhere_block}
-use Rattle.check_walk.specs.Inner.{Good}
-use Rattle.check_walk.proofs.Families.{First, first_none, first_dir, first_other, first_all, kid_inside}
+use Rattle.check_walk.proofs.Families.{First, first_none, first_dir, first_other, kid_inside}
 use Rattle.check_walk.proofs.judge.family.Goals as goal
 use Rattle.check_walk.proofs.judge.family.Goals.{then-is_dir+else-up-n, else-is_dir}
 
@@ -31,7 +27,7 @@ loop-j-preserved c =
     let k = c.is_dir.ensures in (
       omega arith,
       elim c.if-is_dir.branch [
-        then-is_dir+else-up-n w ↦ subst (λ (x : ℕ). First a.image.now a.n.0 (l.j + 1) x) (sym w.c-is) (first_dir _ _ _ _ _ l.invariant.1 e (eqb-true (kind a.image.now m) 2 (sym k ∙ w.if-is_dir.true)) (sym w.entry_number-up.ensures ∙ w.if-up-n.false))
+        | then-is_dir+else-up-n w ↦ subst (λ (x : ℕ). First a.image.now a.n.0 (l.j + 1) x) (sym w.c-is) (first_dir _ _ _ _ _ l.invariant.1 e (eqb-true (kind a.image.now m) 2 (sym k ∙ w.if-is_dir.true)) (sym w.entry_number-up.ensures ∙ w.if-up-n.false))
         | else-is_dir w ↦ subst (λ (x : ℕ). First a.image.now a.n.0 (l.j + 1) x) (sym w.c-is) (first_other _ _ _ _ _ l.invariant.1 e (eqb-false (kind a.image.now m) 2 (sym k ∙ w.if-is_dir.false)))
       ],
       x.ensures.0,

@@ -1,14 +1,7 @@
-use mathlib.Core.Path.{◌≡◌, ap, ◌∙◌, sym, subst}
-use mathlib.Core.Logic.{⊎_elim}
-use Prim.Native.Nat.{ℕ, ◌+◌, ◌-◌, ◌≤◌, ◌<◌}
-use native.Mathlib.Omega.{arith}
-use borrow.Author.Rules.{rules}
-use borrow.Author.Tests.{eqb-true, eqb-false}
-use Rattle.card_layout.specs.Inode.{kind}
-use Rattle.card_rules.specs.View.{kids, entry, data_at}
-use Rattle.check_names.proofs.Entries.{nowhere_block}
-use Rattle.check_walk.specs.Inner.{Good}
-use Rattle.check_walk.proofs.Families.{First, first_none, first_dir, first_other, first_all, kid_inside}
+use mathlib.Core.Path.{◌≡◌}
+use Prim.Native.Nat.{◌-◌, ◌≤◌}
+use Rattle.card_rules.specs.View.{data_at}
+use Rattle.check_walk.proofs.Families.{First}
 use Rattle.check_walk.proofs.judge.family.Given as goal
 
 abbrev pub invariant-loop-j : goal.invariant-loop-j

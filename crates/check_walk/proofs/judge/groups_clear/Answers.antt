@@ -1,8 +1,7 @@
-use mathlib.Core.Path.{◌≡◌, ◌∙◌, sym}
-use Prim.Native.Nat.{ℕ, ◌-◌, ◌*◌, ◌≤◌, ◌<◌}
+use mathlib.Core.Path.{◌∙◌, sym}
+use Prim.Native.Nat.{◌*◌}
 use native.Mathlib.Omega.{arith}
 use Rattle.words.specs.Words.{Bytes}
-use Rattle.card_map.specs.Bits.{map_bit}
 use Rattle.card_map.proofs.Groups.{clear_group}
 use Rattle.check_walk.proofs.Passing.{clear_more}
 use Rattle.check_walk.proofs.judge.groups_clear.Goals as goal

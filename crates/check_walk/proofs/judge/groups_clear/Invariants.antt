@@ -1,10 +1,6 @@
-use mathlib.Core.Path.{◌≡◌, ◌∙◌, sym}
+use mathlib.Core.Path.{◌≡◌}
 use Prim.Native.Nat.{ℕ, ◌-◌, ◌*◌, ◌≤◌, ◌<◌}
-use native.Mathlib.Omega.{arith}
-use Rattle.words.specs.Words.{Bytes}
 use Rattle.card_map.specs.Bits.{map_bit}
-use Rattle.card_map.proofs.Groups.{clear_group}
-use Rattle.check_walk.proofs.Passing.{clear_more}
 use Rattle.check_walk.proofs.judge.groups_clear.Given as goal
 
 abbrev pub invariant-loop-j : goal.invariant-loop-j

@@ -1,6 +1,5 @@
 use mathlib.Core.Path.{◌∙◌, sym, ap}
 use native.Mathlib.Omega.{arith}
-use borrow.Author.Rules.{rules}
 use borrow.Author.Tests.{eq-eqb, ne_eqb}
 use Rattle.card_layout.specs.Inode.{kind, kind_no}
 use Rattle.check_marks.proofs.Heads.{head_kind, bad_no_dir}

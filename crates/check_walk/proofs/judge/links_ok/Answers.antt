@@ -1,6 +1,5 @@
 use mathlib.Core.Path.{◌∙◌, sym, ap}
 use native.Mathlib.Omega.{arith}
-use borrow.Author.Rules.{rules}
 use Rattle.card_layout.specs.Inode.{kind_no}
 use Rattle.check_marks.proofs.Heads.{head_kind, head_links_lem, bad_no_inode}
 use Rattle.check_walk.proofs.Families.{other_links}

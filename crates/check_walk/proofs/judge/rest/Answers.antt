@@ -1,10 +1,9 @@
 use mathlib.Core.Path.{sym, ◌∙◌}
 use native.Mathlib.Omega.{arith}
-use borrow.Author.Rules.{rules}
 use Rattle.words.proofs.Answers.{when-not-true, when_not_false}
 use Rattle.card_layout.specs.Sizes.{maps_for}
 use Rattle.check_walk.proofs.Queueing.{queue_le}
-use Rattle.check_walk.proofs.Judging.{family_in, root_good, told, judged_whole, bits_hold, past_holds, tallies_hold}
+use Rattle.check_walk.proofs.Judging.{family_in, root_good, told, judged_whole, bits_hold, tallies_hold}
 use Rattle.check_walk.proofs.judge.rest.Goals as goal
 
 pub entry_number-up-requires : goal.entry_number-up-requires

@@ -1,11 +1,7 @@
-use mathlib.Core.Path.{◌≡◌, ap, ◌∙◌}
-use mathlib.Core.List.{List}
-use Prim.Native.Nat.{ℕ, ◌+◌, ◌-◌, ◌*◌, ◌≤◌}
-use native.Mathlib.Omega.{arith}
-use lib.ListN.{length, set, length-set}
+use mathlib.Core.Path.{◌≡◌}
+use Prim.Native.Nat.{◌+◌, ◌-◌, ◌*◌, ◌≤◌}
+use lib.ListN.{length}
 use Rattle.words.specs.Runs.{puts}
-use Rattle.words.proofs.Runs.{puts_none, puts_more}
-use Rattle.check_walk.specs.Inner.{started}
 use Rattle.check_walk.proofs.judge.start.Given as goal
 
 abbrev pub invariant-loop-i : goal.invariant-loop-i

@@ -1,8 +1,5 @@
 use Prim.Native.Nat.{ℕ, ◌-◌, ◌≤◌, ◌<◌}
-use native.Mathlib.Omega.{arith}
-use borrow.Author.Count.{below_more}
 use lib.ListN.{get_or}
-use Rattle.words.proofs.Answers.{when-not-true, when_not_false}
 use Rattle.check_walk.specs.Inner.{seen_at, Tally}
 use Rattle.check_walk.proofs.judge.tally.Given as goal
 

@@ -1,10 +1,5 @@
-use mathlib.Core.Path.{sym, ◌∙◌}
 use native.Mathlib.Omega.{arith}
-use borrow.Author.Tests.{not-true, not-false, eqb-true, eqb-false}
-use borrow.Author.Rules.{rules}
-use Rattle.words.proofs.Answers.{when-not-true, when_not_false}
 use Rattle.card_layout.specs.Sizes.{maps_for}
-use Rattle.card_layout.specs.Inode.{kind}
 use Rattle.check_walk.proofs.Starting.{begins}
 use Rattle.check_walk.proofs.judge.whole.Goals as goal
 

@@ -1,15 +1,7 @@
-use mathlib.Core.Path.{◌≡◌, sym, ap, ◌∙◌}
+use mathlib.Core.Path.{◌≡◌}
 use mathlib.Core.List.{List}
 use Prim.Native.Nat.{ℕ, ◌+◌, ◌-◌, ◌*◌, ◌≤◌, ◌<◌}
-use native.Mathlib.Omega.{arith}
-use native.Mathlib.Decide.{dec_lt}
-use lib.ListN.{get_or}
-use Rattle.words.specs.Words.{byte}
-use Rattle.words.specs.Inner.{When}
-use Rattle.words.proofs.Answers.{when-not-true, when_not_false}
 use Rattle.card_map.specs.Bits.{map_bit}
-use Rattle.card_map.proofs.Bits.{bit_of}
-use Rattle.card_map.proofs.Map.{bit_at}
 use Rattle.check_walk.specs.Inner.{own_at}
 use Rattle.check_walk.proofs.map.bytes_agree.Given as goal
 

@@ -1,14 +1,7 @@
 use mathlib.Core.Path.{◌≡◌}
-use mathlib.Core.Bool.{Bool, true, false}
-use mathlib.Core.List.{List}
 use Prim.Native.Nat.{ℕ, ◌+◌, ◌-◌, ◌≤◌, ◌<◌}
-use native.Mathlib.Omega.{arith}
-use borrow.Author.Count.{below_more}
 use lib.ListN.{get_or}
-use Rattle.words.specs.Inner.{Tells}
 use Rattle.card_map.proofs.Bits.{bit_of}
-use Rattle.card_map.proofs.Groups.{bits_of_zero}
-use Rattle.check_walk.proofs.Counting.{bits_of_ones}
 use Rattle.check_walk.proofs.map.eight_agree.Given as goal
 
 abbrev pub invariant-loop-k : goal.invariant-loop-k

@@ -1,11 +1,6 @@
-use mathlib.Core.Path.{◌≡◌, ap, ◌∙◌}
-use Prim.Native.Nat.{ℕ, ◌-◌, ◌≤◌}
-use native.Mathlib.Omega.{arith}
-use native.Mathlib.Numerals.{add-one}
-use Rattle.words.proofs.Sums.{sum_to_suc}
-use Rattle.card_map.specs.Bits.{map_bit, free_bits}
-use Rattle.card_map.proofs.Map.{bit_below}
-use Rattle.check_walk.proofs.Counting.{free_most}
+use mathlib.Core.Path.{◌≡◌}
+use Prim.Native.Nat.{◌-◌, ◌≤◌}
+use Rattle.card_map.specs.Bits.{free_bits}
 use Rattle.check_walk.proofs.map.free_count.Given as goal
 
 abbrev pub invariant-loop-b : goal.invariant-loop-b

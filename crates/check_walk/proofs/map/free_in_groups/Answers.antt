@@ -1,11 +1,11 @@
-use mathlib.Core.Path.{◌≡◌, sym, ap, ◌∙◌}
-use Prim.Native.Nat.{ℕ, ◌+◌, ◌-◌, ◌*◌, ◌≤◌, ◌<◌}
+use mathlib.Core.Path.{◌≡◌, sym, ap}
+use Prim.Native.Nat.{ℕ, ◌+◌, ◌*◌}
 use native.Mathlib.Omega.{arith}
 use mathlib.Core.List.{List}
 use lib.Count.{ones}
 use Rattle.words.specs.Words.{num, Bytes}
 use Rattle.words.proofs.Sums.{sum_to_zero}
-use Rattle.card_map.specs.Bits.{map_bit, free_bits}
+use Rattle.card_map.specs.Bits.{free_bits}
 use Rattle.check_walk.proofs.Counting.{group_free, free_most}
 use Rattle.check_walk.proofs.map.free_in_groups.Goals as goal
 

@@ -1,9 +1,6 @@
 use mathlib.Core.Path.{◌≡◌}
 use Prim.Native.Nat.{ℕ, ◌+◌, ◌-◌, ◌≤◌, ◌<◌}
-use native.Mathlib.Omega.{arith}
-use borrow.Author.Count.{below_more}
 use Rattle.card_map.specs.Bits.{map_bit}
-use Rattle.card_map.proofs.Map.{bit_below}
 use Rattle.check_walk.specs.Inner.{own_at}
 use Rattle.check_walk.proofs.map.rest_agrees.Given as goal
 

@@ -1,11 +1,11 @@
 use borrow.Author.Rules.{rules}
 use native.Mathlib.Omega.{arith}
-use mathlib.Core.Path.{◌≡◌, refl, sym, ap, ◌∙◌}
-use Prim.Native.Nat.{◌-◌, ◌≤◌, ◌<◌}
-use Rattle.card_rules.specs.View.{kids, data_at}
+use mathlib.Core.Path.{refl}
+use Prim.Native.Nat.{◌<◌}
+use Rattle.card_rules.specs.View.{kids}
 use Rattle.check_names.proofs.Entries.{nowhere_block}
 use Rattle.check_walk.specs.Inner.{past}
-use Rattle.check_walk.proofs.Queueing.{room, Noting, noting_none, noting_more, noting_many, noting_all}
+use Rattle.check_walk.proofs.Queueing.{room, noting_none, noting_more, noting_many}
 use Rattle.check_walk.proofs.queue.scan.Goals as goal
 
 pub loop-j-init : goal.loop-j-init

@@ -1,11 +1,7 @@
-use borrow.Author.Rules.{rules}
-use native.Mathlib.Omega.{arith}
-use mathlib.Core.Path.{◌≡◌, refl, sym, ap, ◌∙◌}
-use Prim.Native.Nat.{◌-◌, ◌≤◌, ◌<◌}
-use Rattle.card_rules.specs.View.{kids, data_at}
-use Rattle.check_names.proofs.Entries.{nowhere_block}
-use Rattle.check_walk.specs.Inner.{past}
-use Rattle.check_walk.proofs.Queueing.{room, Noting, noting_none, noting_more, noting_many, noting_all}
+use mathlib.Core.Path.{◌≡◌}
+use Prim.Native.Nat.{◌-◌, ◌≤◌}
+use Rattle.card_rules.specs.View.{data_at}
+use Rattle.check_walk.proofs.Queueing.{Noting}
 use Rattle.check_walk.proofs.queue.scan.Given as goal
 
 abbrev pub invariant-loop-j : goal.invariant-loop-j

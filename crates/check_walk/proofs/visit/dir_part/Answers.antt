@@ -1,13 +1,11 @@
-use mathlib.Core.Path.{◌≡◌, refl, sym, ap, ◌∙◌}
-use Prim.Native.Nat.{ℕ, ◌*◌, ◌-◌}
+use mathlib.Core.Path.{ap, ◌∙◌}
+use Prim.Native.Nat.{◌*◌}
 use native.Mathlib.Omega.{arith}
 use borrow.Rule.Slice.PartMut.{mid_len}
-use Rattle.words.proofs.Answers.{when-not-true, when_not_false}
-use Rattle.card_layout.specs.Inode.{kind, kind_no}
-use Rattle.card_layout.specs.declared.inode.FileType.{FileType}
+use Rattle.words.proofs.Answers.{when-not-true}
+use Rattle.card_layout.specs.Inode.{kind_no}
 use Rattle.check_marks.proofs.Heads.{head_kind, head_size}
-use Rattle.check_walk.proofs.Visiting.{same_mid, same_none}
-use borrow.Author.Rules.{rules}
+use Rattle.check_walk.proofs.Visiting.{same_none}
 use Rattle.check_walk.proofs.visit.dir_part.Goals as goal
 
 pub dir_ok-requires : goal.dir_ok-requires

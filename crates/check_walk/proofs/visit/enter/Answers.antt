@@ -1,6 +1,5 @@
 use native.Mathlib.Omega.{arith}
 use mathlib.Core.Path.{◌≡◌, ◌∙◌}
-use borrow.Author.Rules.{rules}
 use Rattle.words.proofs.Answers.{when-not-true, when_not_false}
 use Rattle.card_rules.specs.View.{kids}
 use Rattle.check_walk.proofs.Visiting.{space_kept, head_kids_lem, kids_in, queue_met, t_le, n_inside, n_reached, wrong, entered}

@@ -1,7 +1,6 @@
-use borrow.Author.Rules.{rules}
 use Rattle.words.proofs.Answers.{when-not-true, when_not_false}
 use Rattle.check_marks.proofs.Heads.{head_of, inode_fits}
-use Rattle.check_walk.specs.Inner.{ill, taken, bad_dir}
+use Rattle.check_walk.specs.Inner.{ill}
 use Rattle.check_walk.proofs.Visiting.{space_kept, inode_met, read_met, met_same}
 use Rattle.check_walk.proofs.visit.meet.Goals as goal
 

@@ -1,7 +1,6 @@
 use native.Mathlib.Omega.{arith}
 use mathlib.Core.Path.{refl, sym, ◌∙◌}
 use lib.ListN.{get_or}
-use borrow.Author.Rules.{rules}
 use Rattle.check_marks.proofs.Heads.{bad_no_inode}
 use Rattle.check_walk.specs.Inner.{ill}
 use Rattle.check_walk.proofs.Queueing.{queue_le}

@@ -1,11 +1,7 @@
-use borrow.Author.Rules.{rules}
-use native.Mathlib.Omega.{arith}
-use mathlib.Core.Path.{◌≡◌, refl, ◌∙◌, subst}
-use Prim.Native.Nat.{ℕ, ◌-◌}
+use mathlib.Core.Path.{◌≡◌}
+use Prim.Native.Nat.{◌-◌}
 use lib.ListN.{length}
 use Rattle.check_walk.specs.Inner.{Progress}
-use Rattle.check_walk.proofs.Queueing.{queue_le}
-use Rattle.check_walk.proofs.Visiting.{space_kept, ends_at, ends_bad}
 use Rattle.check_walk.proofs.visit.walk.Given as goal
 
 abbrev pub invariant-loop-h : goal.invariant-loop-h

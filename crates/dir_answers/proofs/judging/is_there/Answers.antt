@@ -1,7 +1,6 @@
 use mathlib.Core.Path.{refl}
 use Rattle.dir_answers.proofs.Ready.{readable_ready, entries_inside, entries-few}
 use Rattle.dir_answers.proofs.Heads.{head_is}
-use borrow.Author.Rules.{rules}
 use Rattle.dir_answers.proofs.judging.is_there.Goals as goal
 
 pub find_entry-requires : goal.find_entry-requires

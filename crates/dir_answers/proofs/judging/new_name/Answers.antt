@@ -1,9 +1,8 @@
 use mathlib.Core.Path.{sym, ◌∙◌}
 use native.Mathlib.Omega.{arith}
-use borrow.Author.Tests.{not-true, not-false}
+use borrow.Author.Tests.{not-false}
 use Rattle.dir_answers.proofs.Heads.{head_is}
-use Rattle.dir_answers.proofs.Tests.{new_bad, new_there, new_free}
-use borrow.Author.Rules.{rules}
+use Rattle.dir_answers.proofs.Tests.{new_there, new_free}
 use Rattle.dir_answers.proofs.judging.new_name.Goals as goal
 
 pub returns-then-is_there-h : goal.returns-then-is_there-h

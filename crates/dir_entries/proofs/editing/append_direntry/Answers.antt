@@ -1,5 +1,4 @@
 use Rattle.dir_entries.specs.Entries.{appended}
-use borrow.Author.Rules.{rules}
 use Rattle.dir_entries.proofs.editing.append_direntry.Goals as goal
 
 pub returns : goal.returns

@@ -1,5 +1,4 @@
 use Rattle.dir_entries.specs.Entries.{entry_at}
-use borrow.Author.Rules.{rules}
 use Rattle.dir_entries.proofs.editing.read_entry.Goals as goal
 
 pub returns : goal.returns

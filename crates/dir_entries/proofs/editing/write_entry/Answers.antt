@@ -1,5 +1,4 @@
 use Rattle.dir_entries.specs.Entries.{entry_put}
-use borrow.Author.Rules.{rules}
 use Rattle.dir_entries.proofs.editing.write_entry.Goals as goal
 
 pub returns : goal.returns

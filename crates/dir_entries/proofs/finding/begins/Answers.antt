@@ -1,9 +1,5 @@
 use native.Mathlib.Omega.{arith}
-use mathlib.Core.Path.{◌≡◌, refl, sym, ◌∙◌}
-use Prim.Native.Nat.{◌≤◌, ◌-◌}
-use lib.ListN.{length, drop}
-use Rattle.check_names.proofs.Scanning.{left}
-use Rattle.dir_entries.specs.Entries.{eqs}
+use mathlib.Core.Path.{sym, ◌∙◌}
 use Rattle.dir_entries.proofs.Comparing.{place_nul, place_other, place_same, place_end}
 use Rattle.dir_entries.proofs.finding.begins.Goals as goal
 

@@ -1,10 +1,8 @@
 use native.Mathlib.Omega.{arith}
-use mathlib.Core.Path.{◌≡◌, sym, ◌∙◌}
-use Prim.Native.Nat.{◌≤◌, ◌-◌}
-use Rattle.card_rules.specs.View.{data_at}
+use mathlib.Core.Path.{sym, ◌∙◌}
 use Rattle.check_names.proofs.Entries.{nowhere_block}
 use Rattle.dir_entries.proofs.Comparing.{eqs_same, eqs_apart}
-use Rattle.dir_entries.proofs.Lookup.{Unmet, unmet_none, unmet_more, where_is_lem, where_none}
+use Rattle.dir_entries.proofs.Lookup.{unmet_none, unmet_more, where_is_lem, where_none}
 use Rattle.dir_entries.proofs.finding.find_entry.Goals as goal
 
 pub loop-k-init : goal.loop-k-init

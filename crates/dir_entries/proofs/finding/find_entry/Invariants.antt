@@ -1,10 +1,7 @@
-use native.Mathlib.Omega.{arith}
-use mathlib.Core.Path.{◌≡◌, sym, ◌∙◌}
+use mathlib.Core.Path.{◌≡◌}
 use Prim.Native.Nat.{◌≤◌, ◌-◌}
 use Rattle.card_rules.specs.View.{data_at}
-use Rattle.check_names.proofs.Entries.{nowhere_block}
-use Rattle.dir_entries.proofs.Comparing.{eqs_same, eqs_apart}
-use Rattle.dir_entries.proofs.Lookup.{Unmet, unmet_none, unmet_more, where_is_lem, where_none}
+use Rattle.dir_entries.proofs.Lookup.{Unmet}
 use Rattle.dir_entries.proofs.finding.find_entry.Given as goal
 
 abbrev pub invariant-loop-k : goal.invariant-loop-k

@@ -1,6 +1,5 @@
 use mathlib.Core.Path.{sym}
 use Rattle.dir_entries.proofs.Given.{dots_one, dots_two, dots-length, dots_other}
-use borrow.Author.Rules.{rules}
 use Rattle.dir_entries.proofs.finding.is_dots.Goals as goal
 
 pub returns-then-x-eq1 : goal.returns-then-x-eq1

@@ -5,7 +5,6 @@ use lib.ListN.{take, drop}
 use Rattle.card_layout.specs.Entry.{upto_nul}
 use Rattle.dir_entries.specs.Entries.{eqs}
 use Rattle.dir_entries.proofs.Comparing.{name_told}
-use borrow.Author.Rules.{rules}
 use Rattle.dir_entries.proofs.finding.named.Goals as goal
 
 pub returns : goal.returns

@@ -4,7 +4,6 @@ use mathlib.Core.List.{List}
 use Prim.Native.Nat.{ℕ, ◌-◌}
 use Rattle.check_names.proofs.Entries.{name_cut}
 use Rattle.dir_entries.specs.Entries.{eqs}
-use borrow.Author.Rules.{rules}
 use Rattle.dir_entries.proofs.finding.named_far.Goals as goal
 
 pub returns : goal.returns

@@ -1,8 +1,5 @@
 use native.Mathlib.Omega.{arith}
-use mathlib.Core.Path.{◌≡◌, refl, sym, ◌∙◌}
-use Prim.Native.Nat.{◌≤◌, ◌-◌}
-use lib.ListN.{length, drop}
-use Rattle.dir_entries.specs.Names.{no_nul}
+use mathlib.Core.Path.{sym, ◌∙◌}
 use Rattle.dir_entries.proofs.Given.{none_here, none_next, none_end}
 use Rattle.dir_entries.proofs.finding.no_nul.Goals as goal
 

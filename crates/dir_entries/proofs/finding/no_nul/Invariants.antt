@@ -1,9 +1,7 @@
-use native.Mathlib.Omega.{arith}
-use mathlib.Core.Path.{◌≡◌, refl, sym, ◌∙◌}
+use mathlib.Core.Path.{◌≡◌}
 use Prim.Native.Nat.{◌≤◌, ◌-◌}
 use lib.ListN.{length, drop}
 use Rattle.dir_entries.specs.Names.{no_nul}
-use Rattle.dir_entries.proofs.Given.{none_here, none_next, none_end}
 use Rattle.dir_entries.proofs.finding.no_nul.Given as goal
 
 abbrev pub invariant-loop-i : goal.invariant-loop-i

@@ -1,7 +1,6 @@
 use mathlib.Core.Path.{sym, ◌∙◌}
-use borrow.Author.Tests.{eqb-true, eqb-false, not-true, not-false}
+use borrow.Author.Tests.{eqb-false, not-true}
 use Rattle.dir_entries.proofs.Comparing.{eqs_open, eqs-long, eqs_tail}
-use borrow.Author.Rules.{rules}
 use Rattle.dir_entries.proofs.finding.same.Goals as goal
 
 pub returns-then-not-ends_at : goal.returns-then-not-ends_at
