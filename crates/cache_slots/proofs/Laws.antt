@@ -38,6 +38,12 @@ pub done_none : (f : Slot → Slot) (ys : List Slot) → ys ≡ done f 0 ys
 unfolding done
 done_none f ys = refl
 
+pub length-done : (f : Slot → Slot) (j : ℕ) (ys : List Slot) → length (done f j ys) ≡ length ys
+unfolding done
+length-done f zero ys = refl
+length-done f (suc j) [] = refl
+length-done f (suc j) (y ∷ ys) = ap suc (length-done f j ys)
+
 pub done_at : (f : Slot → Slot) (j : ℕ) (ys : List Slot) → get_or (done f j ys) j none ≡ get_or ys j none
 unfolding done
 done_at f zero ys = refl
