@@ -94,7 +94,7 @@ archive_made() {
 }
 
 # What proving the library and making its archive takes from nothing.
-archive_takes="ARCHIVE_TAKES from nothing, and less where most of it is proved already"
+archive_takes="many minutes from nothing, and less where most of it is proved already"
 
 # make_archive: target/staticlib/libsfs.a, of what was proved. Names each crate once rt has checked it; all that rt says is in
 # target/staticlib/log. Where nothing has changed since it was made, nothing is said and done.

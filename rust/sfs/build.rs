@@ -6,7 +6,11 @@ use std::process::Command;
 fn main() {
     println!("cargo:rerun-if-env-changed=SFS_LIB");
     let archive = match env::var_os("SFS_LIB") {
-        Some(path) => PathBuf::from(path),
+        Some(path) => {
+            let archive = PathBuf::from(path);
+            println!("cargo:rerun-if-changed={}", archive.display());
+            archive
+        }
         None => made_here(),
     };
     assert!(
@@ -14,7 +18,6 @@ fn main() {
         "{} is no file: set SFS_LIB to libsfs.a",
         archive.display()
     );
-    println!("cargo:rerun-if-changed={}", archive.display());
     let folder = archive.canonicalize().expect("the archive's place").with_file_name("");
     println!("cargo:rustc-link-search=native={}", folder.display());
     println!("cargo:rustc-link-lib=static={}", link_name(&archive));
@@ -29,7 +32,7 @@ fn link_name(archive: &Path) -> &str {
     }
 }
 
-/// Proves the library and makes its archive, with the Rattle kit.
+/// Proves the library and makes its archive, with the Rattle kit; again where a crate has changed.
 fn made_here() -> PathBuf {
     let target = env::var("CARGO_CFG_TARGET_ARCH").unwrap_or_default();
     assert!(

@@ -1,6 +1,6 @@
 // The calls of a recording, put to the library. x is the first name, or the bytes to be written or read; y is the second name.
 use crate::frame::{Frame, Got};
-use crate::{input, made};
+use crate::made;
 use call_dirs;
 use call_files;
 use call_looks;
@@ -143,7 +143,7 @@ fn move_(f: Frame, image: &mut [u8], scratch: &mut [u32], x: &[u8], y: &[u8]) ->
     told(r, 0)
 }
 
-// The names that follow a call in the recording. What is not there any more stays as it was.
+// The names that follow a call in the recording.
 pub fn read_names(from: &mut impl Read, f: Frame, x: &mut [u8], y: &mut [u8]) -> io::Result<()> {
     let op = f.op;
     match op {

@@ -11,7 +11,6 @@ use words::order;
 
 mod calls;
 mod frame;
-mod input;
 mod made;
 
 // The two steps that are no calls: a new card, and bytes for it.

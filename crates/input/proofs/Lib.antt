@@ -1,0 +1,2 @@
+-- Lemmas for the proofs.
+mod Consumed
