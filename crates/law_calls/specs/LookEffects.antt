@@ -45,7 +45,7 @@ pub record FormatEffect (img out : List ℕ) (space : ℕ) : Type 0 where
   pub blocks_is : blocks out ≡ blocks_for space
   -- in use are the blocks up to the map's last, and the one after it, which has the root's two entries
   pub unused_is : unused out + (first_after_map (blocks_for space) + 1) ≡ blocks_for space
-  pub root_block_lem : data_at out 1 0 ≡ first_after_map (blocks_for space)
+  pub root_block : data_at out 1 0 ≡ first_after_map (blocks_for space)
   pub root_size : size out 1 ≡ 520
   -- "text "simple file system"", the root's record as a new one, and every byte of its two entries
   pub text : (k : ℕ) → k < 32 → byte out (12 + k) ≡ byte info_text k

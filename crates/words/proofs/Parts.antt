@@ -73,7 +73,7 @@ pub mid_same : (a k : ℕ) (xs ys : List ℕ) → a ≤ length xs → length ys 
 mid_same a k xs ys l e =
     rw (drop_at (take a xs) (ys ++ post_of a k xs) a (length-take-le a xs l), take_at ys (post_of a k xs) k e)
 
--- a number before a part that was put (one after it: by `drop-put`)
+-- a number before a part that was put (one after it: by `drop_put`)
 pub num_before : (n a k : ℕ) (xs ys : List ℕ) (at : ℕ) → at + n ≤ a → a ≤ length xs → num n (put_mid a k xs ys) at ≡ num n xs at
 num_before n a k xs ys at h l =
     num_frame n (put_mid a k xs ys) xs at

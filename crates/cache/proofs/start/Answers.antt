@@ -1,3 +1,4 @@
+-- `cache::start` meets its contract. The invariant: the slots passed are fresh. Assumes nothing.
 use Prim.Native.Nat.{ℕ, ◌-◌}
 use mathlib.Core.Path.{◌≡◌, refl, ap, ◌∙◌}
 use native.Mathlib.Omega.{arith}

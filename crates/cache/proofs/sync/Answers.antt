@@ -1,3 +1,4 @@
+-- `cache::sync` meets its contract. Assumes nothing.
 use mathlib.Core.Path.{refl}
 use Rattle.words.proofs.Answers.{when-not-true, when_not_false}
 use Rattle.cache.specs.Calls.Call.{done, refused}

@@ -1,3 +1,4 @@
+-- `cache::write` meets its contract, by what its parts leave (`write_made`). Assumes nothing.
 use mathlib.Core.Path.{refl}
 use native.Mathlib.Omega.{arith}
 use Rattle.words.proofs.Answers.{when-not-true, when_not_false}

@@ -1,3 +1,4 @@
+-- `cache_slots::at_most_64` meets its contract. Assumes nothing.
 use borrow.Author.Tests.{lt-ltb, le-ltb}
 use mathlib.Core.Path.{refl}
 use Rattle.cache_slots.specs.Plain.{few}

@@ -1,3 +1,6 @@
+-- `cache_slots::find` meets its contract. In each turn a slot is copied out of the slice, and `holds` is asked.
+-- The invariant: what is left to search finds at i + find_of (drop i ys) what the whole search finds.
+-- Assumes nothing.
 use Rattle.std.proofs.Common.{sym, ◌∙◌, arith}
 use Rattle.cache_slots.proofs.Laws.{find_next, find_here, find_none}
 use Rattle.cache_slots.proofs.find.Goals as goal

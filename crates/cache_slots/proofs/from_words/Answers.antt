@@ -1,3 +1,5 @@
+-- `cache_slots::from_words` meets its contract. In each turn what `slot_of` makes of the words is stored in a slot's place.
+-- The invariant: the first j slots are what the words say. Assumes nothing.
 use Rattle.std.proofs.Common.{length, arith}
 use Rattle.cache_slots.proofs.PlainLaws.{few_le, spread_none, spread_more}
 use Rattle.cache_slots.proofs.from_words.Goals as goal

@@ -1,3 +1,4 @@
+-- `cache_slots::put` meets its contract. Assumes nothing.
 use mathlib.Core.Path.{refl}
 use Rattle.cache_slots.specs.Plain.{put_of}
 use Rattle.cache_slots.proofs.put.Goals as goal

@@ -1,3 +1,4 @@
+-- `cache_slots::slot_of` meets its contract. Assumes nothing.
 use mathlib.Core.Path.{refl}
 use Rattle.cache_slots.specs.Plain.{slot_of}
 use Rattle.cache_slots.proofs.slot_of.Goals as goal

@@ -1,3 +1,4 @@
+-- `cache_slots::sync_plain` meets its contract. Assumes nothing.
 use Prim.Native.Nat.{◌≤◌, ◌*◌}
 use mathlib.Core.Path.{◌≡◌}
 use native.Mathlib.Omega.{arith}

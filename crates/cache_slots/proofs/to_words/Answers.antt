@@ -1,3 +1,5 @@
+-- `cache_slots::to_words` meets its contract. In each turn a slot is copied out of the slice, and `put` adds its words.
+-- The invariant: the words of the first i slots are there. Assumes nothing.
 use Rattle.std.proofs.Common.{length, ◌∙◌, arith}
 use Rattle.cache_slots.proofs.PlainLaws.{few_le, load_none, load_more}
 use Rattle.cache_slots.proofs.to_words.Goals as goal

@@ -1,3 +1,4 @@
+-- `cache_slots::touch` meets its contract: `find` leaves the slots as they were, and on a hit they are what `visit` says. Assumes nothing.
 use Rattle.std.proofs.Common.{◌∙◌}
 use Rattle.cache_slots.proofs.Laws.{touched_hit, touched_miss}
 use Rattle.cache_slots.proofs.touch.Goals as goal

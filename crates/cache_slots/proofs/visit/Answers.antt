@@ -1,3 +1,6 @@
+-- `cache_slots::visit` meets its contract. In each turn a slot is copied out of the slice, and what `later` makes of it is stored in its place.
+-- The invariant: the first j slots are done. Slot i is stored once more after the loop.
+-- Assumes nothing.
 use Rattle.std.proofs.Common.{ℕ, List, ◌≡◌, ◌<◌, ◌+◌, length, get_or, ap, ◌∙◌, set, arith, length-set}
 use Rattle.cache_slots.specs.declared.Slot.{Slot}
 use Rattle.cache_slots.specs.Slots.{none, later_of, front_of, visited}

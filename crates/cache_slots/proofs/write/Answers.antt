@@ -1,3 +1,5 @@
+-- `cache_slots::write` meets its contract: the slots as words (`to_words`) and device, data and the buffer go to `write_plain`, and what it leaves of the words becomes the slots (`from_words`).
+-- Assumes nothing.
 use Rattle.cache_slots.proofs.Records.{records_write}
 use Rattle.cache_slots.proofs.write.Goals as goal
 

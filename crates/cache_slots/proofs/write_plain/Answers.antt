@@ -1,3 +1,4 @@
+-- `cache_slots::write_plain` meets its contract. Assumes nothing.
 use Prim.Native.Nat.{◌≤◌, ◌*◌}
 use mathlib.Core.Path.{◌≡◌}
 use native.Mathlib.Omega.{arith}

@@ -1,3 +1,4 @@
+-- `call_files::read` meets its contract. An open card is whole, which is what the request asks. Assumes nothing.
 use Rattle.call_said.proofs.Opened.{ready, ready_sizes, ready_below}
 use Rattle.call_files.proofs.read.Goals as goal
 

@@ -1,3 +1,5 @@
+-- `call_looks::metadata` meets its contract. An inode of an open card has one of the three kinds, and a decoded head is that of its record. Assumes
+-- nothing.
 use mathlib.Core.Path.{sym, ◌∙◌}
 use Rattle.dir_answers.proofs.Heads.{head_is}
 use Rattle.call_said.proofs.Opened.{ready, record_in, reached_kind, on_open}

@@ -1,3 +1,4 @@
+-- `card_map::clear_bit` meets its contract: `1 << k` is the power (`shl_one`). Assumes nothing.
 use Rattle.std.proofs.Common.{◌%◌, arith}
 use Rattle.card_map.specs.Bits.{map_bit, clear_bit}
 use Rattle.card_map.proofs.Bits.{shl_one}

@@ -1,3 +1,4 @@
+-- `card_map::find_free` meets its contract: the search goes over whole map bytes, and what it finds is judged against n (`lowest_within`, `lowest_past`). Assumes nothing.
 use Rattle.std.proofs.Common.{◌≡◌, ◌+◌, ◌*◌, ◌/◌, sym, ap, ◌∙◌, arith}
 use Rattle.card_map.specs.Free.{lowest}
 use Rattle.card_map.specs.Inner.{found_below}

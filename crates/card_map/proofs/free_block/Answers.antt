@@ -1,3 +1,4 @@
+-- `card_map::free_block` meets its contract: the equations of its calls, put together. Assumes nothing.
 use Rattle.std.proofs.Common.{ℕ, ◌+◌, ◌%◌, ◌^◌, List, ap, ◌∙◌}
 use Rattle.card_layout.specs.Super.{put_unused}
 use Rattle.card_map.specs.Bits.{set_bit}

@@ -1,3 +1,5 @@
+-- `card_map::search` meets its contract. The loop's invariant: no block from `from` on has been passed that is free. A step passes eight empty bytes
+-- (`group_clear`) or one; in a byte that is not empty the count of trailing zeros is the first free block (`trailing_lowest`). Assumes nothing.
 use Rattle.std.proofs.Common.{◌≡◌, ℕ, ◌+◌, ◌-◌, ◌*◌, ◌/◌, ◌%◌, ◌<◌, ◌≤◌, List, sym, ap, ◌∙◌, arith, eqb-true}
 use native.Mathlib.Decide.{dec_lt}
 use lib.Count.{count_trailing_zeros}

@@ -1,3 +1,4 @@
+-- `card_map::set_bit` meets its contract: what is put on has room in the byte (`on_room`), and `1 << k` is the power (`shl_one`). Assumes nothing.
 use Rattle.std.proofs.Common.{◌+◌, ◌/◌, ◌%◌, get_or, arith}
 use Rattle.card_map.specs.Bits.{map_bit, set_bit}
 use Rattle.card_map.proofs.Bits.{shl_one, on_room}

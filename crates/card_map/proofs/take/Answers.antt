@@ -1,3 +1,4 @@
+-- `card_map::take` meets its contract: the equations of its calls, put together. Assumes nothing.
 use Rattle.std.proofs.Common.{ℕ, ◌-◌, List, ap, ◌∙◌}
 use Rattle.card_layout.specs.Super.{put_unused}
 use Rattle.card_map.specs.Bits.{clear_bit}

@@ -1,3 +1,4 @@
+-- `check_line::put_line` meets its contract: seven parts, one behind another. Assumes nothing.
 use native.Mathlib.Omega.{arith}
 use Rattle.check_line.specs.Line.{blocks_text, free_text, newline, decimal, check_line}
 use Rattle.check_line.proofs.Puts.{made_first, made_more}

@@ -1,3 +1,5 @@
+-- `check_line::put_number` meets its contract. The digits of the rest, put into the buffer as it is, make it what the digits of n make of the first one.
+-- Assumes nothing.
 use mathlib.Core.Path.{◌≡◌, refl, sym, ap, ◌∙◌}
 use Prim.Native.Nat.{◌+◌, ◌/◌, ◌%◌, ◌≤◌, ◌<◌}
 use native.Mathlib.Omega.{arith}

@@ -1,3 +1,4 @@
+-- `check_line::width` meets its contract. With each turn a digit goes over from the text of the rest to the count. Assumes nothing.
 use native.Mathlib.Omega.{arith}
 use Rattle.check_line.proofs.Decimal.{length_small, length_large, length_some, length_32}
 use Rattle.check_line.proofs.width.Goals as goal

@@ -1,3 +1,5 @@
+-- `check_marks::mark_double` meets its contract: the run of the second level, each block of which is then on the card, and what these blocks name. Assumes
+-- nothing.
 use Prim.Native.Nat.{◌*◌, ◌<◌}
 use native.Mathlib.Omega.{arith}
 use Rattle.card_rules.proofs.Views.{seconds_some}

@@ -1,3 +1,4 @@
+-- `check_marks::mark_indirect` meets its contract: it is one run, or none below 12 blocks. Assumes nothing.
 use Prim.Native.Nat.{◌*◌, ◌-◌, min}
 use mathlib.Core.Path.{◌≡◌}
 use native.Mathlib.Omega.{arith}

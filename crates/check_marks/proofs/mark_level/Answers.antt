@@ -1,3 +1,5 @@
+-- `check_marks::mark_level` meets its contract. The loop's invariant: what the first `j` blocks of the second level name is marked. The measure is what is
+-- left of `k`. Assumes nothing.
 use Prim.Native.Nat.{ℕ, ◌+◌, ◌*◌}
 use mathlib.Core.Path.{◌≡◌, ap, ◌∙◌, subst}
 use mathlib.Core.List.{List}

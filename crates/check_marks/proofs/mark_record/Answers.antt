@@ -1,3 +1,4 @@
+-- `check_marks::mark_record` meets its contract: its parts are marked one after the other, and a clash in one is carried over those before. Assumes nothing.
 use Prim.Native.Nat.{ℕ, ◌+◌, ◌*◌, min}
 use mathlib.Core.Path.{refl}
 use mathlib.Core.List.{List}

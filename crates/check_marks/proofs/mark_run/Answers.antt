@@ -1,3 +1,5 @@
+-- `check_marks::mark_run` meets its contract. The loop's invariant: `p` is the place of word `j`, and the first `j` words are marked. The measure is what is
+-- left of `c`. Assumes nothing.
 use Prim.Native.Nat.{ℕ, ◌+◌, ◌*◌}
 use mathlib.Core.Path.{ap, ◌∙◌}
 use native.Mathlib.Omega.{arith}

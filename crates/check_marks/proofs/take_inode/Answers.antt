@@ -1,3 +1,4 @@
+-- `check_marks::take_inode` meets its contract: `owns_head` says what an inode uses in the parts in which it is marked. Assumes nothing.
 use Prim.Native.Nat.{◌+◌, ◌≤◌}
 use mathlib.Core.Path.{refl}
 use native.Mathlib.Omega.{arith}

@@ -1,3 +1,4 @@
+-- `check_walk::cleared` meets its contract: the part lent to `judge` is all zero, and cleared again after (`zeros_twice`). Assumes nothing.
 use mathlib.Core.Path.{◌∙◌}
 use Prim.Native.Nat.{◌*◌}
 use native.Mathlib.Omega.{arith}

@@ -1,3 +1,4 @@
+-- `check_walk::sized` meets its contract: rule 1, field by field of the decoded superblock. Assumes nothing.
 use mathlib.Core.Path.{◌∙◌, sym, ap}
 use native.Mathlib.Omega.{arith}
 use Rattle.card_layout.specs.Sizes.{maps_for}

@@ -1,3 +1,4 @@
+-- `dir_create::create` meets its contract. What is refused changes nothing; what is taken on has a name that fits, and a parent whose links may rise. Assumes nothing.
 use mathlib.Core.Path.{◌≡◌, sym, ◌∙◌, subst}
 use Prim.Native.Nat.{◌<◌}
 use native.Mathlib.Omega.{arith}

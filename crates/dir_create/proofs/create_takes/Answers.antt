@@ -1,3 +1,4 @@
+-- `dir_create::create_takes` meets its contract. Each way out is a case of `create_takes`; the sum is far from what a machine word holds. Assumes nothing.
 use native.Mathlib.Omega.{arith}
 use Rattle.dir_answers.proofs.Heads.{needs_small}
 use Rattle.dir_create.proofs.create_takes.Goals as goal

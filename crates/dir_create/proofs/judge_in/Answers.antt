@@ -1,3 +1,4 @@
+-- `dir_create::judge_in` meets its contract. Each way out is a case of `create_answer`. Assumes nothing.
 use mathlib.Core.Path.{sym, ◌∙◌}
 use borrow.Author.Tests.{not-true, not-false}
 use Rattle.dir_answers.proofs.Refused.{plain_refused}

@@ -1,3 +1,4 @@
+-- `dir_create::make` meets its contract. The kind decides (`made_dir_lem`, `made_file_lem`). Assumes nothing.
 use mathlib.Core.Path.{sym, ◌∙◌}
 use Rattle.dir_create.proofs.CreateLaws.{made_dir_lem, made_file_lem}
 use Rattle.dir_create.proofs.make.Goals as goal

@@ -1,3 +1,4 @@
+-- `dir_create::make_dir` meets its contract. The block that is taken is on the card; a link more changes no size. Assumes nothing.
 use Prim.Native.Nat.{◌<◌}
 use native.Mathlib.Omega.{arith}
 use Rattle.file_blocks.proofs.Growth.{next_free_below}

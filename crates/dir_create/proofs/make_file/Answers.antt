@@ -1,3 +1,4 @@
+-- `dir_create::make_file` meets its contract. The block that is taken is on the card. Assumes nothing.
 use Prim.Native.Nat.{◌<◌}
 use native.Mathlib.Omega.{arith}
 use Rattle.file_blocks.proofs.Growth.{next_free_below}

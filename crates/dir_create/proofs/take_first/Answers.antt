@@ -1,3 +1,4 @@
+-- `dir_create::take_first` meets its contract: the search finds what it found before (`next_same`, `taken_same`). Assumes nothing.
 use mathlib.Core.Path.{◌∙◌}
 use Rattle.dir_create.proofs.CreateLaws.{next_same, taken_same}
 use Rattle.dir_create.proofs.take_first.Goals as goal

@@ -1,3 +1,4 @@
+-- `dir_format::fill_bytes` meets its contract. The loop's invariant: the bits of the bytes from i on below j are set. Assumes nothing.
 use mathlib.Core.Path.{refl}
 use native.Mathlib.Omega.{arith}
 use lib.ListN.{length-set}

@@ -1,3 +1,4 @@
+-- `dir_format::format` meets its contract. What is refused changes nothing; what is taken on is a size of card, within the slice (`format_room`). Assumes nothing.
 use mathlib.Core.Path.{sym, ◌∙◌, ap}
 use Prim.Native.Nat.{ℕ}
 use native.Mathlib.Omega.{arith}

@@ -1,3 +1,4 @@
+-- `dir_format::format_card` meets its contract. The parts in order. Assumes nothing.
 use Rattle.dir_format.specs.Format.{formatted}
 use Rattle.dir_format.proofs.format_card.Goals as goal
 

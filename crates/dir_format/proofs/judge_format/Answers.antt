@@ -1,3 +1,4 @@
+-- `dir_format::judge_format` meets its contract. A size outside the range is refused by its bytes, before the sum that rounds up is made. Assumes nothing.
 use mathlib.Core.Path.{sym, ◌∙◌}
 use Prim.Native.Nat.{◌*◌}
 use native.Mathlib.Omega.{arith}

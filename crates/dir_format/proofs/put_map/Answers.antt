@@ -1,3 +1,4 @@
+-- `dir_format::put_map` meets its contract. Zeros, then a bit for each free block. Assumes nothing.
 use Rattle.dir_format.specs.Format.{fresh_map}
 use Rattle.dir_format.proofs.put_map.Goals as goal
 

@@ -1,3 +1,5 @@
+-- `dir_format::set_bits` meets its contract: the run of bits up to the first whole byte, that of the whole bytes and that of the last byte are one
+-- run (`goes_on`). Assumes nothing.
 use mathlib.Core.Path.{ap, ◌∙◌}
 use Prim.Native.Nat.{◌*◌, ◌/◌, ◌+◌}
 use native.Mathlib.Omega.{arith}

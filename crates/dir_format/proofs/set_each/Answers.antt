@@ -1,3 +1,4 @@
+-- `dir_format::set_each` meets its contract. The loop's invariant: the bits from `from` on below `b` are set. The measure is what is left of `e`. Assumes nothing.
 use mathlib.Core.Path.{refl, ◌∙◌}
 use native.Mathlib.Omega.{arith}
 use Rattle.words.proofs.Runs.{turns_none, turns_more}

@@ -1,3 +1,4 @@
+-- `dir_link::judge_in` meets its contract. Each way out is a case of `link_answer`. Assumes nothing.
 use mathlib.Core.Path.{sym, ◌∙◌}
 use native.Mathlib.Omega.{arith}
 use Rattle.dir_answers.proofs.Refused.{plain_refused}

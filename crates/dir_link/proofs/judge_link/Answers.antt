@@ -1,3 +1,4 @@
+-- `dir_link::judge_link` meets its contract. The head decides (`link_no_dir`). Assumes nothing.
 use mathlib.Core.Path.{sym, ◌∙◌}
 use native.Mathlib.Omega.{arith}
 use Rattle.dir_answers.proofs.Ready.{readable_ready}

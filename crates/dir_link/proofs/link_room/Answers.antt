@@ -1,3 +1,4 @@
+-- `dir_link::link_room` meets its contract. Each way out is a case of `link_room`. Assumes nothing.
 use mathlib.Core.Path.{sym, ap, ◌∙◌}
 use Prim.Native.Nat.{ℕ}
 use Rattle.dir_answers.specs.Answers.{room_for}

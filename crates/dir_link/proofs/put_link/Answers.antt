@@ -1,3 +1,4 @@
+-- `dir_link::put_link` meets its contract. The two steps, said as `linked`. Assumes nothing.
 use Rattle.dir_link.specs.Link.{linked}
 use Rattle.dir_link.proofs.put_link.Goals as goal
 

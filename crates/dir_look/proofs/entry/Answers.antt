@@ -1,3 +1,4 @@
+-- `dir_look::entry` meets its contract. What is answered is an entry within the directory; what is refused has no bytes. Assumes nothing.
 use mathlib.Core.Path.{sym, ◌∙◌, subst}
 use Rattle.dir_answers.specs.declared.Acted.{Acted}
 use Rattle.dir_answers.proofs.Refused.{Refused, plain_refused}

@@ -1,3 +1,4 @@
+-- `dir_look::find` meets its contract. The head decides (`find_no_dir`). Assumes nothing.
 use mathlib.Core.Path.{sym, ◌∙◌}
 use native.Mathlib.Omega.{arith}
 use Rattle.dir_answers.proofs.Ready.{readable_ready}

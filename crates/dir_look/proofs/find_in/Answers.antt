@@ -1,3 +1,4 @@
+-- `dir_look::find_in` meets its contract. Each way out is a case of `find_answer`; the head's size is the card's. Assumes nothing.
 use mathlib.Core.Path.{sym, ap, ◌∙◌}
 use Prim.Native.Nat.{◌<◌}
 use native.Mathlib.Omega.{arith}

@@ -1,3 +1,4 @@
+-- `dir_look::judge_entry` meets its contract. Each way out is a case of `entry_answer`; the head's size is the card's. Assumes nothing.
 use mathlib.Core.Path.{sym, ◌∙◌}
 use native.Mathlib.Omega.{arith}
 use Rattle.card_layout.specs.Inode.{decoded}

@@ -1,3 +1,4 @@
+-- `dir_move::climbs_to` meets its contract. The loop's invariant: `x` is a reached directory, and the climb from it in the steps that are left decides that from `t`. The measure is `left`. Assumes nothing.
 use mathlib.Core.Path.{◌≡◌, sym, ap, ◌∙◌, subst}
 use Prim.Native.Nat.{ℕ, ◌-◌}
 use native.Mathlib.Omega.{arith}

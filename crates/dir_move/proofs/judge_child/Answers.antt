@@ -1,3 +1,4 @@
+-- `dir_move::judge_child` meets its contract. The head decides; entry k names a reached inode. Assumes nothing.
 use native.Mathlib.Omega.{arith}
 use Rattle.dir_answers.proofs.Ready.{sizes_whole, readable_ready}
 use Rattle.dir_answers.proofs.Heads.{head_small}

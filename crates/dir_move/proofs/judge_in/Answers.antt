@@ -1,3 +1,4 @@
+-- `dir_move::judge_in` meets its contract. A new name that is refused decides (`move_name`), and else the source (`move_rest`). Assumes nothing.
 use mathlib.Core.Path.{sym, ap, ◌∙◌}
 use Rattle.dir_entries.specs.Entries.{where_is}
 use Rattle.dir_answers.specs.Inner.{placed}

@@ -1,3 +1,4 @@
+-- `dir_move::judge_move` meets its contract. The head of the source decides (`move_no_dir`). Assumes nothing.
 use mathlib.Core.Path.{sym, ap, ◌∙◌}
 use native.Mathlib.Omega.{arith}
 use Rattle.dir_entries.specs.Entries.{where_is}

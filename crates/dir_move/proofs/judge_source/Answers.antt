@@ -1,3 +1,4 @@
+-- `dir_move::judge_source` meets its contract. Each way out is a test of the source; the head's size is the card's. Assumes nothing.
 use mathlib.Core.Path.{sym, ap, ◌∙◌}
 use native.Mathlib.Omega.{arith}
 use Rattle.dir_answers.specs.Inner.{placed}

@@ -1,3 +1,4 @@
+-- `dir_move::judge_target` meets its contract. The head of the target decides (`move_no_target`). Assumes nothing.
 use mathlib.Core.Path.{sym, ap, ◌∙◌}
 use native.Mathlib.Omega.{arith}
 use Rattle.dir_entries.specs.Entries.{where_is}

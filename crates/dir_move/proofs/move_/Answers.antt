@@ -1,3 +1,4 @@
+-- `dir_move::move_` meets its contract. What is refused changes nothing (`move_refused`); what is not has passed its tests (`move_asks`). Assumes nothing.
 use mathlib.Core.Path.{sym, ap, ◌∙◌}
 use Prim.Native.Nat.{ℕ}
 use Rattle.words.specs.Words.{Bytes}

@@ -1,3 +1,4 @@
+-- `dir_move::move_at` meets its contract. In place, or between two directories. Assumes nothing.
 use mathlib.Core.Path.{sym, ◌∙◌}
 use Rattle.dir_move.specs.Move.{moved}
 use Rattle.dir_answers.proofs.Refused.{held, failed}

@@ -1,3 +1,4 @@
+-- `dir_move::move_dir` meets its contract. The same with other links, then the `..`. Assumes nothing.
 use Rattle.dir_move.specs.Move.{moved_dir}
 use Rattle.dir_move.proofs.move_dir.Goals as goal
 

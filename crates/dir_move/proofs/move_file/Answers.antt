@@ -1,3 +1,4 @@
+-- `dir_move::move_file` meets its contract. Appended to the target, then removed. Assumes nothing.
 use Rattle.dir_move.specs.Move.{moved_file}
 use Rattle.dir_move.proofs.move_file.Goals as goal
 

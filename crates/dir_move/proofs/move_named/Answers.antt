@@ -1,3 +1,4 @@
+-- `dir_move::move_named` meets its contract. Entry k stands in a directory, and names a reached inode (`move_ready`). Assumes nothing.
 use mathlib.Core.Path.{sym, ◌∙◌}
 use native.Mathlib.Omega.{arith}
 use Rattle.dir_answers.proofs.Ready.{readable_ready}

@@ -1,3 +1,4 @@
+-- `dir_move::move_room` meets its contract. By the kind (`room_dir`, `room_file`). Assumes nothing.
 use mathlib.Core.Path.{sym, ap, ◌∙◌}
 use Prim.Native.Nat.{ℕ}
 use Rattle.dir_answers.specs.Answers.{room_for}

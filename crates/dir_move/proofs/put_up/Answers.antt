@@ -1,3 +1,4 @@
+-- `dir_move::put_up` meets its contract. Four bytes of `..`. Assumes nothing.
 use Rattle.dir_move.specs.Move.{up_put}
 use Rattle.dir_move.proofs.put_up.Goals as goal
 

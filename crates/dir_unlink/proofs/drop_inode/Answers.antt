@@ -1,3 +1,4 @@
+-- `dir_unlink::drop_inode` meets its contract. All it owns, then its own block. Assumes nothing.
 use Rattle.dir_unlink.specs.Unlink.{dropped}
 use Rattle.dir_unlink.proofs.drop_inode.Goals as goal
 

@@ -1,3 +1,4 @@
+-- `dir_unlink::judge_in` meets its contract. Each way out is a case of `unlink_answer`; the head's size is the card's. Assumes nothing.
 use mathlib.Core.Path.{refl, sym, ap, ◌∙◌}
 use Prim.Native.Nat.{◌<◌}
 use native.Mathlib.Omega.{arith}

@@ -1,3 +1,4 @@
+-- `dir_unlink::judge_unlink` meets its contract. The head decides (`unlink_no_dir`). Assumes nothing.
 use mathlib.Core.Path.{refl, sym, ◌∙◌}
 use native.Mathlib.Omega.{arith}
 use Rattle.dir_answers.proofs.Ready.{readable_ready}

@@ -1,3 +1,4 @@
+-- `dir_unlink::unlink` meets its contract. What is refused changes nothing (`unlink_refused`); else the place is that of the name (`placed_at`). Assumes nothing.
 use mathlib.Core.Path.{sym, ap, ◌∙◌}
 use native.Mathlib.Omega.{arith}
 use Rattle.dir_entries.specs.Entries.{where_is}

@@ -1,3 +1,4 @@
+-- `dir_unlink::unlink_at` meets its contract. The links that are left decide. Assumes nothing.
 use mathlib.Core.Path.{sym, ◌∙◌}
 use Rattle.dir_unlink.specs.Unlink.{links_left, unlinked}
 use Rattle.dir_answers.proofs.Refused.{held, failed}

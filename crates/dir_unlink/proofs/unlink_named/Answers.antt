@@ -1,3 +1,4 @@
+-- `dir_unlink::unlink_named` meets its contract. The entry stands in a directory, and names a reached inode (`unlink_ready`). Assumes nothing.
 use mathlib.Core.Path.{sym, ◌∙◌}
 use native.Mathlib.Omega.{arith}
 use Rattle.dir_answers.proofs.Ready.{readable_ready}

@@ -1,3 +1,4 @@
+-- `file_fill::fill_direct` meets its contract: the run of the record's slots. Assumes nothing.
 use Rattle.file_blocks.specs.Bytes.{direct_fill}
 use Rattle.file_fill.proofs.fill_direct.Goals as goal
 

@@ -1,3 +1,4 @@
+-- `file_fill::fill_indirect` meets its contract: the run of the indirect block's slots, where that is a block of the card. Assumes nothing.
 use borrow.Author.Tests.{lt-ltb, le-ltb}
 use Rattle.file_blocks.specs.Bytes.{indirect_fill}
 use Rattle.file_fill.proofs.fill_indirect.Goals as goal

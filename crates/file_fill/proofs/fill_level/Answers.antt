@@ -1,3 +1,4 @@
+-- `file_fill::fill_level` meets its contract: the run of one second-level block's slots, where that is a block of the card. Assumes nothing.
 use borrow.Author.Tests.{lt-ltb, le-ltb}
 use Rattle.file_blocks.specs.Bytes.{level_fill}
 use Rattle.file_fill.proofs.fill_level.Goals as goal

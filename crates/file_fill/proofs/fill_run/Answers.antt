@@ -1,3 +1,4 @@
+-- `file_fill::fill_run` meets its contract. The loop's invariant: what is done is the turns from i up to j. Assumes nothing.
 use mathlib.Core.Path.{◌≡◌, refl, ◌∙◌}
 use native.Mathlib.Nat.{le_refl}
 use native.Mathlib.Omega.{arith}

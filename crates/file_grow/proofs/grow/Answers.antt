@@ -1,3 +1,5 @@
+-- `file_grow::grow` meets its contract. Four steps, one after the other; each leaves the search no further than the last block. Assumes
+-- nothing.
 use Rattle.file_grow.proofs.Following.{all_steps, after_indirect, after_double, after_level}
 use Rattle.file_grow.specs.Inner.{growing_at}
 use Prim.Native.Nat.{◌≤◌, ◌<◌}

@@ -1,3 +1,5 @@
+-- `file_grow::grow_data` meets its contract. Three steps, one after the other; each leaves the search no further than the last block. Assumes
+-- nothing.
 use Rattle.file_grow.proofs.Following.{after_direct, after_single}
 use Prim.Native.Nat.{◌≤◌, ◌<◌}
 use native.Mathlib.Omega.{arith}

@@ -1,3 +1,5 @@
+-- `file_grow::grow_direct` meets its contract. The loop's invariant: after the turns up to `i` the card, `f` and the record are those of as
+-- many turns of `into_direct`. The measure is what is left of `e`. Assumes nothing.
 use Rattle.file_grow.specs.Inner.{growing_at}
 use Rattle.file_blocks.proofs.Picks.{both}
 use Prim.Native.Nat.{ℕ, ◌-◌, min}

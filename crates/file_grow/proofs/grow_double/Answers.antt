@@ -1,3 +1,4 @@
+-- `file_grow::grow_double` meets its contract. Each way out is a case of `grow_double`. Assumes nothing.
 use mathlib.Core.Path.{sym, ◌∙◌}
 use native.Mathlib.Omega.{arith}
 use Rattle.file_grow.specs.Inner.{growing_at}

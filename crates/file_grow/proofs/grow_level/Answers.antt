@@ -1,3 +1,4 @@
+-- `file_grow::grow_level` meets its contract. One run, whose places are those of `grow_level`. Assumes nothing.
 use Rattle.file_grow.proofs.Following.{level_step, grew_by}
 use Prim.Native.Nat.{◌≤◌}
 use mathlib.Core.Path.{sym}

@@ -1,3 +1,4 @@
+-- `file_grow::grow_part` meets its contract. One run, whose places are those of `grow_part`. Assumes nothing.
 use Rattle.file_grow.proofs.Following.{part_step, moved_by}
 use mathlib.Core.Path.{sym}
 use native.Mathlib.Omega.{arith}

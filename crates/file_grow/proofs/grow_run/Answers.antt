@@ -1,3 +1,5 @@
+-- `file_grow::grow_run` meets its contract. The loop's invariant: after `j` turns the card and `f` are those of a run of `j` blocks. The
+-- measure is what is left of `k`. Assumes nothing.
 use Prim.Native.Nat.{◌+◌, ◌*◌}
 use mathlib.Core.Path.{refl, ap, ◌∙◌}
 use native.Mathlib.Omega.{arith}

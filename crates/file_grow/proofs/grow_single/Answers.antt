@@ -1,3 +1,4 @@
+-- `file_grow::grow_single` meets its contract. One run, whose places are those of `grow_single`. Assumes nothing.
 use Rattle.file_grow.proofs.Following.{single_step, grew_by}
 use mathlib.Core.Path.{sym}
 use native.Mathlib.Omega.{arith}

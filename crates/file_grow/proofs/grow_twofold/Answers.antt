@@ -1,3 +1,5 @@
+-- `file_grow::grow_twofold` meets its contract. The loop's invariant: after the turns up to `q` the card and `f` are those of as many turns of
+-- `grow_part`. The measure is what is left of `e`. Assumes nothing.
 use Rattle.file_grow.proofs.Following.{twofold_turn_lem, twofold_end, grew_by}
 use Prim.Native.Nat.{◌-◌}
 use mathlib.Core.Path.{◌≡◌, sym, refl}

@@ -1,3 +1,4 @@
+-- `file_grow::take_next` meets its contract. What the search answers is the next free block, and 0 where there is none. Assumes nothing.
 use mathlib.Core.Path.{sym, ◌∙◌}
 use Rattle.card_map.specs.declared.FreeBlock.TheVariants.{At, Nothing}
 use Rattle.file_blocks.proofs.Growth.{next_free_is}

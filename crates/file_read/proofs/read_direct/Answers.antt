@@ -1,3 +1,4 @@
+-- `file_read::read_direct` meets its contract: the run of the record's slots. Assumes nothing.
 use Rattle.file_blocks.specs.Bytes.{direct_read}
 use Rattle.file_read.proofs.read_direct.Goals as goal
 

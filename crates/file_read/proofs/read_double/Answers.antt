@@ -1,3 +1,4 @@
+-- `file_read::read_double` meets its contract. The loop's invariant: what is done is the turns of the second-level blocks up to q. Assumes nothing.
 use borrow.Author.Tests.{lt-ltb, le-ltb}
 use mathlib.Core.Path.{◌≡◌, refl, ◌∙◌}
 use native.Mathlib.Nat.{le_refl}

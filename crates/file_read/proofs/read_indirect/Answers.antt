@@ -1,3 +1,4 @@
+-- `file_read::read_indirect` meets its contract: the run of the indirect block's slots, where that is a block of the card. Assumes nothing.
 use borrow.Author.Tests.{lt-ltb, le-ltb}
 use Rattle.file_blocks.specs.Bytes.{indirect_read}
 use Rattle.file_read.proofs.read_indirect.Goals as goal

@@ -1,3 +1,4 @@
+-- `file_read::read_level` meets its contract: the run of one second-level block's slots, where that is a block of the card. Assumes nothing.
 use borrow.Author.Tests.{lt-ltb, le-ltb}
 use Rattle.file_blocks.specs.Bytes.{level_read}
 use Rattle.file_read.proofs.read_level.Goals as goal

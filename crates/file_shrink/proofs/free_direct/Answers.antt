@@ -1,3 +1,4 @@
+-- `file_shrink::free_direct` meets its contract. One run, whose places are those of `free_direct`. Assumes nothing.
 use Prim.Native.Nat.{ℕ, ◌+◌, ◌*◌, ◌-◌}
 use mathlib.Core.Path.{◌∙◌}
 use Rattle.file_blocks.proofs.Picks.{both}

@@ -1,3 +1,4 @@
+-- `file_shrink::free_double` meets its contract. Each way out is a case of `free_double`. Assumes nothing.
 use mathlib.Core.Path.{sym, ◌∙◌}
 use native.Mathlib.Omega.{arith}
 use Rattle.file_shrink.proofs.Freeing.{free_double_past, free_double_short, free_double_over}

@@ -1,3 +1,4 @@
+-- `file_shrink::free_indirect` meets its contract. Each way out is a case of `free_indirect`. Assumes nothing.
 use mathlib.Core.Path.{sym, ◌∙◌}
 use native.Mathlib.Omega.{arith}
 use Rattle.file_shrink.proofs.Freeing.{free_indirect_past, free_indirect_short, free_indirect_over}

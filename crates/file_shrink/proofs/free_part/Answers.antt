@@ -1,3 +1,4 @@
+-- `file_shrink::free_part` meets its contract. One run, whose places are those of `free_part`. Assumes nothing.
 use Prim.Native.Nat.{ℕ, ◌+◌, ◌*◌, ◌-◌}
 use mathlib.Core.Path.{sym, ◌∙◌}
 use native.Mathlib.Omega.{arith}

@@ -1,3 +1,5 @@
+-- `file_shrink::free_run` meets its contract. The loop's invariant: after `j` turns the card is that of a run of `j` blocks freed. The measure
+-- is what is left of `k`. Assumes nothing.
 use Prim.Native.Nat.{ℕ, ◌+◌, ◌*◌}
 use mathlib.Core.Path.{refl, ap, ◌∙◌}
 use mathlib.Core.List.{List}

@@ -1,3 +1,5 @@
+-- `file_shrink::free_twofold` meets its contract. The loop's invariant: after the turns up to `q` the card is that of as many turns of
+-- `free_part`. The measure is what is left of `e`. Assumes nothing.
 use Rattle.file_shrink.proofs.Freeing.{frees_turn, twofold_free, free_twofold_in, free_twofold_out}
 use Prim.Native.Nat.{ℕ, ◌-◌}
 use mathlib.Core.Path.{◌≡◌, sym, ◌∙◌, refl}

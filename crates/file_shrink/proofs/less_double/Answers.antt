@@ -1,3 +1,4 @@
+-- `file_shrink::less_double` meets its contract. Each way out is a case of `less_double`. Assumes nothing.
 use mathlib.Core.Path.{sym, ◌∙◌}
 use native.Mathlib.Omega.{arith}
 use Rattle.file_shrink.proofs.Freeing.{less_double_past, less_double_short, less_double_over}

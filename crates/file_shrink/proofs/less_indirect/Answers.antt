@@ -1,3 +1,4 @@
+-- `file_shrink::less_indirect` meets its contract. Each way out is a case of `less_indirect`. Assumes nothing.
 use mathlib.Core.Path.{sym, ◌∙◌}
 use native.Mathlib.Omega.{arith}
 use Rattle.file_shrink.proofs.Freeing.{less_indirect_past, less_indirect_short, less_indirect_over}

@@ -1,3 +1,4 @@
+-- `file_shrink::shrink` meets its contract. Six steps, one after the other. Assumes nothing.
 use Rattle.file_shrink.proofs.Freeing.{shrunk_steps}
 use Rattle.file_shrink.proofs.shrink.Goals as goal
 

@@ -1,3 +1,4 @@
+-- `utf8::ascii` meets its contract: the highest bit of all eight bytes by one mask. Assumes nothing.
 use native.Mathlib.Omega.{arith}
 use lib.Bits.{bit_and}
 use Rattle.words.specs.Words.{Bytes}

@@ -1,3 +1,4 @@
+-- `utf8::four` meets its contract: each test is made only where the one before it holds. Assumes nothing.
 use mathlib.Core.Path.{sym, ◌∙◌}
 use mathlib.Core.Bool.{◌&&◌}
 use Rattle.utf8.specs.Inner.{within, tail, second, four}

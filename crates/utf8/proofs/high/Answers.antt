@@ -1,3 +1,4 @@
+-- `utf8::high` meets its contract. Assumes nothing.
 use borrow.Author.Tests.{eq-eqb, ne_eqb}
 use Rattle.utf8.specs.Inner.{high}
 use Rattle.utf8.proofs.high.Goals as goal

@@ -1,3 +1,4 @@
+-- `utf8::low` meets its contract. Assumes nothing.
 use borrow.Author.Tests.{eq-eqb, ne_eqb}
 use Rattle.utf8.specs.Inner.{low}
 use Rattle.utf8.proofs.low.Goals as goal

@@ -1,3 +1,4 @@
+-- `utf8::pass` meets its contract. The loop's invariant: all bytes from `from` on that were passed are below 128. Assumes nothing.
 use Prim.Native.Nat.{◌-◌}
 use lib.ListN.{length}
 use Rattle.utf8.specs.Inner.{Passed}

@@ -1,3 +1,4 @@
+-- `utf8::taken` meets its contract: at each return the tests so far pick the row (`taken_rows`). Assumes nothing.
 use mathlib.Core.Path.{◌≡◌, refl, sym}
 use mathlib.Core.Bool.{true, false}
 use borrow.Author.Tests.{le-ltb}

@@ -1,3 +1,4 @@
+-- `utf8::two` meets its contract: each test is made only where the one before it holds. Assumes nothing.
 use mathlib.Core.Path.{sym, ◌∙◌}
 use Rattle.utf8.specs.Inner.{within, tail, two}
 use Rattle.utf8.proofs.Tests.{and_on, and_off}

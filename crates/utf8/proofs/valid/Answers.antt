@@ -1,3 +1,4 @@
+-- `utf8::valid` meets its contract. The loop's invariant: what is left is text just where the whole is (`Same`). Assumes nothing.
 use mathlib.Core.List.{List}
 use lib.Seq.{take_all}
 use Prim.Native.Nat.{ℕ, ◌+◌, ◌-◌, ◌≤◌}

@@ -1,3 +1,4 @@
+-- `cache::blocks::flush` meets its contract. Assumes nothing.
 use mathlib.Core.Path.{refl}
 use borrow.Author.Tests.{eq-eqb, ne_eqb}
 use Rattle.cache.specs.Effects.{flushed}

@@ -1,3 +1,4 @@
+-- `cache::blocks::flush_all` meets its contract. The invariant: the dirty ones of the slots passed are written back. Assumes nothing.
 use Prim.Native.Nat.{ℕ, ◌-◌}
 use mathlib.Core.Path.{◌≡◌, refl, ap, ◌∙◌}
 use native.Mathlib.Omega.{arith}

@@ -1,3 +1,4 @@
+-- `cache::blocks::load` meets its contract. Assumes nothing.
 use mathlib.Core.Path.{refl}
 use Rattle.cache.specs.Effects.{loaded}
 use Rattle.cache.proofs.blocks.load.Goals as goal

@@ -1,3 +1,4 @@
+-- `cache::blocks::make_room` meets its contract. Assumes nothing.
 use mathlib.Core.Path.{refl}
 use Rattle.cache.specs.Effects.{roomed}
 use Rattle.cache.proofs.blocks.make_room.Goals as goal

@@ -1,3 +1,4 @@
+-- `cache_order::judge::all_apart` meets its contract. The invariant: the slots passed are each alone among those before, and are marked. Assumes nothing.
 use Prim.Native.Nat.{ℕ, ◌≤◌, ◌<◌, ◌-◌}
 use mathlib.Core.Path.{◌≡◌}
 use lib.ListN.{length}

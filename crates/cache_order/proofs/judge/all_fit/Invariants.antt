@@ -1,3 +1,4 @@
+-- `cache_order::judge::all_fit` meets its contract. The invariant: the slots passed fit. Assumes nothing.
 use Prim.Native.Nat.{ℕ, ◌≤◌, ◌<◌, ◌-◌}
 use Rattle.cache_order.specs.Slots.{Fits}
 use Rattle.cache_order.proofs.judge.all_fit.Given as goal

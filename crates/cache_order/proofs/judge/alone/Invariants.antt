@@ -1,3 +1,4 @@
+-- `cache_order::judge::alone` meets its contract. The invariant: the slots passed differ from slot `j`. Assumes nothing.
 use Prim.Native.Nat.{ℕ, ◌≤◌, ◌<◌, ◌-◌}
 use Rattle.cache_order.specs.Slots.{Differ}
 use Rattle.cache_order.proofs.judge.alone.Given as goal

@@ -1,3 +1,4 @@
+-- `cache_order::order::clean` meets its contract. The invariant: the statuses passed are changed, the others not. Assumes nothing.
 use Prim.Native.Nat.{◌*◌}
 use mathlib.Core.Path.{◌≡◌, refl, ap, ◌∙◌}
 use native.Mathlib.Omega.{arith}

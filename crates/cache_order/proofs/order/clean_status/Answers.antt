@@ -1,3 +1,4 @@
+-- `cache_order::order::clean_status` meets its contract. Assumes nothing.
 use borrow.Author.Tests.{eq-eqb, ne_eqb}
 use mathlib.Core.Path.{refl}
 use Rattle.cache_order.specs.Order.{clean_status}

@@ -1,3 +1,4 @@
+-- `cache_order::order::hit` meets its contract. The invariant: the search from `i` on finds what the whole search finds. Assumes nothing.
 use Rattle.cache_order.specs.Slots.{slots_in}
 use Prim.Native.Nat.{ℕ, ◌-◌}
 use mathlib.Core.Path.{◌≡◌, sym, ap, ◌∙◌}

@@ -1,3 +1,4 @@
+-- `cache_order::order::holds_block` meets its contract. Assumes nothing.
 use mathlib.Core.Path.{refl}
 use Rattle.cache_order.specs.Order.{holds}
 use Rattle.cache_order.proofs.order.holds_block.Goals as goal

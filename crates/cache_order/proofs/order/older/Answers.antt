@@ -1,3 +1,4 @@
+-- `cache_order::order::older` meets its contract. Assumes nothing.
 use borrow.Author.Tests.{lt-ltb, le-ltb}
 use mathlib.Core.Path.{refl}
 use Rattle.cache_order.specs.Order.{older_of}

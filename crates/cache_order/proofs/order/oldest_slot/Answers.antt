@@ -1,3 +1,4 @@
+-- `cache_order::order::oldest_slot` meets its contract. The invariant: `best` is the oldest of the slots passed. Assumes nothing.
 use mathlib.Core.Path.{refl}
 use native.Mathlib.Numerals.{add-one}
 use native.Mathlib.Omega.{arith}

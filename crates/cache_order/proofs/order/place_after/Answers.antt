@@ -1,3 +1,4 @@
+-- `cache_order::order::place_after` meets its contract. Assumes nothing.
 use borrow.Author.Tests.{lt-ltb, le-ltb}
 use mathlib.Core.Path.{refl}
 use Rattle.cache_order.specs.Order.{place_after}

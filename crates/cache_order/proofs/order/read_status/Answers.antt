@@ -1,3 +1,4 @@
+-- `cache_order::order::read_status` meets its contract. Assumes nothing.
 use mathlib.Core.Path.{refl}
 use Rattle.cache_order.specs.Order.{read_status}
 use Rattle.cache_order.proofs.order.read_status.Goals as goal

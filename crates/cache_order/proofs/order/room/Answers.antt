@@ -1,3 +1,4 @@
+-- `cache_order::order::room` meets its contract. Assumes nothing.
 use mathlib.Core.Path.{refl}
 use borrow.Author.Tests.{lt-ltb, le-ltb}
 use Rattle.cache_order.specs.Order.{room_of}

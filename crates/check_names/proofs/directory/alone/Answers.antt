@@ -1,3 +1,5 @@
+-- `check_names::directory::alone` meets its contract. The invariant: the name differs from the keys of the window from c on. A key whose tag is another
+-- has another name. Assumes nothing.
 use native.Mathlib.Omega.{arith}
 use mathlib.Core.Path.{◌≡◌, ap, sym, ◌∙◌}
 use mathlib.Core.List.{List}

@@ -1,3 +1,4 @@
+-- `check_names::directory::dots_ok` meets its contract: the names of entries 0 and 1 are those of the loaded bytes. Assumes nothing.
 use mathlib.Core.Path.{sym, ◌∙◌}
 use Rattle.words.proofs.Answers.{when-not-true, when_not_false, when-map}
 use Rattle.check_names.proofs.Scanning.{name_in}

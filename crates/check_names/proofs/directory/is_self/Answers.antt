@@ -1,3 +1,4 @@
+-- `check_names::directory::is_self` meets its contract. Assumes nothing.
 use native.Mathlib.Omega.{arith}
 use mathlib.Core.List.{[]}
 use Rattle.card_layout.proofs.Names.{nul_here}

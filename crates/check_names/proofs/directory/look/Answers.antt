@@ -1,3 +1,4 @@
+-- `check_names::directory::look` meets its contract: a NUL in the name's first part ends it (`name_near`). Assumes nothing.
 use native.Mathlib.Omega.{arith}
 use mathlib.Core.Path.{◌≡◌, refl, sym, ap, ◌∙◌}
 use mathlib.Core.List.{List}

@@ -1,3 +1,4 @@
+-- `check_names::directory::look_far` meets its contract: the name is a part of the loaded entry (`name_cut`). Assumes nothing.
 use native.Mathlib.Omega.{arith}
 use mathlib.Core.Path.{sym, ap, ◌∙◌}
 use mathlib.Core.List.{List}

@@ -1,3 +1,4 @@
+-- `check_names::directory::names_ok` meets its contract. The invariant: the first lo names differ from all later ones. Assumes nothing.
 use mathlib.Core.Path.{◌≡◌}
 use Prim.Native.Nat.{◌≤◌, ◌-◌}
 use lib.ListN.{length}

@@ -1,3 +1,4 @@
+-- `check_names::directory::same_name` meets its contract. The invariant: the names are the same where what is left of them from place i on is. Assumes nothing.
 use native.Mathlib.Omega.{arith}
 use Rattle.check_names.proofs.Scanning.{alike_nul, alike_more, alike_not}
 use Rattle.check_names.proofs.directory.same_name.Goals as goal

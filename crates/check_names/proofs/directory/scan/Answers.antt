@@ -1,3 +1,5 @@
+-- `check_names::directory::scan` meets its contract. The invariant: the name is i bytes and what is left of it from place i on, and its hash is that of
+-- what is left, on top of a. Assumes nothing.
 use mathlib.Core.List.{[]}
 use native.Mathlib.Omega.{arith}
 use native.Mathlib.Nat.{mod-lt}

@@ -1,3 +1,5 @@
+-- `check_names::directory::window` meets its contract. The invariant: k keys stand in the chains, the window holds up to entry j,
+-- and b is block c. Assumes nothing.
 use native.Mathlib.Omega.{arith}
 use mathlib.Core.Path.{◌≡◌, refl, ap, sym, ◌∙◌, subst}
 use mathlib.Core.List.{List}

@@ -1,3 +1,4 @@
+-- `check_names::directory::zero` meets its contract. The invariant: the first i words are zeroed. Assumes nothing.
 use mathlib.Core.Path.{◌≡◌, refl, ap, ◌∙◌}
 use mathlib.Core.List.{List}
 use Prim.Native.Nat.{ℕ, ◌+◌, zero-le}

@@ -1,3 +1,4 @@
+-- `check_names::loading::entry_number` meets its contract: the number stands in one block (`entry-word`). Assumes nothing.
 use mathlib.Core.Path.{sym, ap, ◌∙◌}
 use Prim.Native.Nat.{ℕ, ◌+◌, ◌*◌, ◌%◌}
 use Rattle.words.specs.Words.{word}

@@ -1,3 +1,4 @@
+-- `check_names::loading::get_disk_block_id` meets its contract: in each arm the slot says where i falls (`falls`), and so that the words read are on the card. Assumes nothing.
 use native.Mathlib.Omega.{arith}
 use mathlib.Core.Path.{◌≡◌, sym, ap, ◌∙◌}
 use Prim.Native.Nat.{ℕ, ◌<◌}

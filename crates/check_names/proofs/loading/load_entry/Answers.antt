@@ -1,3 +1,4 @@
+-- `check_names::loading::load_entry` meets its contract: one copy where the entry stands in one block (`run_alone`), else two (`run_pair`). Assumes nothing.
 use native.Mathlib.Omega.{arith}
 use mathlib.Core.Path.{◌≡◌, refl, ap, ◌∙◌}
 use mathlib.Core.List.{List}

@@ -1,3 +1,4 @@
+-- `check_walk::judge::bits_clear` meets its contract. The loop's invariant: the bits from nb up to b are clear. Assumes nothing.
 use mathlib.Core.Path.{◌≡◌}
 use Prim.Native.Nat.{ℕ, ◌-◌, ◌≤◌, ◌<◌}
 use Rattle.card_map.specs.Bits.{map_bit}

@@ -1,3 +1,4 @@
+-- `check_walk::judge::dir_links` meets its contract: named once, 2 links and one for each subdirectory (`dir_tally`). Assumes nothing.
 use mathlib.Core.Path.{◌∙◌}
 use native.Mathlib.Omega.{arith}
 use Rattle.check_marks.proofs.Heads.{head_links_lem}

@@ -1,3 +1,5 @@
+-- `check_walk::judge::family` meets its contract. The loop's invariant: of the first j children c are directories, each with n as its parent (`First`),
+-- and p knows its block. Assumes nothing.
 use mathlib.Core.Path.{◌∙◌, sym, subst}
 use Prim.Native.Nat.{ℕ, ◌+◌}
 use native.Mathlib.Omega.{arith}

@@ -1,3 +1,4 @@
+-- `check_walk::judge::groups_clear` meets its contract. The loop's invariant: the bits of the groups from i up to j are clear (`clear_more`). Assumes nothing.
 use mathlib.Core.Path.{◌∙◌, sym}
 use Prim.Native.Nat.{◌*◌}
 use native.Mathlib.Omega.{arith}

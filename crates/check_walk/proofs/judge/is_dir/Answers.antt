@@ -1,3 +1,4 @@
+-- `check_walk::judge::is_dir` meets its contract: by the kind that was decoded; a record of no kind is no directory's. Assumes nothing.
 use mathlib.Core.Path.{◌∙◌, sym, ap}
 use native.Mathlib.Omega.{arith}
 use borrow.Author.Tests.{eq-eqb, ne_eqb}

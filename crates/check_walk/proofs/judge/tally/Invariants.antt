@@ -1,3 +1,4 @@
+-- `check_walk::judge::tally` meets its contract. The loop's invariant: the first i inodes of the queue have the right links. Assumes nothing.
 use Prim.Native.Nat.{ℕ, ◌-◌, ◌≤◌, ◌<◌}
 use lib.ListN.{get_or}
 use Rattle.check_walk.specs.Inner.{seen_at, Tally}

@@ -1,3 +1,4 @@
+-- `check_walk::judge::whole` meets its contract: what start leaves is what the walk asks (`begins`), what the walk leaves is what `rest` asks. Assumes nothing.
 use native.Mathlib.Omega.{arith}
 use Rattle.card_layout.specs.Sizes.{maps_for}
 use Rattle.check_walk.proofs.Starting.{begins}

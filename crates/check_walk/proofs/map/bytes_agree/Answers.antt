@@ -1,3 +1,4 @@
+-- `check_walk::map::bytes_agree` meets its contract. The loop's invariant: each block of the bytes before i is in use once or free. Assumes nothing.
 use mathlib.Core.Path.{◌≡◌, ap}
 use mathlib.Core.List.{List}
 use Prim.Native.Nat.{ℕ, ◌+◌, ◌-◌, ◌*◌, ◌≤◌, ◌<◌}

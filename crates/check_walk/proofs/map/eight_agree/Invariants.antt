@@ -1,3 +1,4 @@
+-- `check_walk::map::eight_agree` meets its contract. The loop's invariant: the blocks before k are in use once or free. Assumes nothing.
 use mathlib.Core.Path.{◌≡◌}
 use Prim.Native.Nat.{ℕ, ◌+◌, ◌-◌, ◌≤◌, ◌<◌}
 use lib.ListN.{get_or}

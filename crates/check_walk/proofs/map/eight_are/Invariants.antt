@@ -1,3 +1,4 @@
+-- `check_walk::map::eight_are` meets its contract. The loop's invariant: the marks before k are v. Assumes nothing.
 use mathlib.Core.Path.{◌≡◌}
 use Prim.Native.Nat.{ℕ, ◌+◌, ◌-◌, ◌≤◌, ◌<◌}
 use lib.ListN.{get_or}

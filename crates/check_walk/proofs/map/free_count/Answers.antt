@@ -1,3 +1,4 @@
+-- `check_walk::map::free_count` meets its contract. The loop's invariant: c is how many blocks below b are free. Assumes nothing.
 use native.Mathlib.Omega.{arith}
 use native.Mathlib.Numerals.{add-one}
 use Rattle.words.proofs.Sums.{sum_to_suc}

@@ -1,3 +1,4 @@
+-- `check_walk::map::free_in_groups` meets its contract. The loop's invariant: c is how many blocks of the groups passed are free. Assumes nothing.
 use mathlib.Core.Path.{◌≡◌, sym, ap}
 use Prim.Native.Nat.{ℕ, ◌+◌, ◌*◌}
 use native.Mathlib.Omega.{arith}

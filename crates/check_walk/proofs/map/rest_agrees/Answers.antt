@@ -1,3 +1,4 @@
+-- `check_walk::map::rest_agrees` meets its contract. The loop's invariant: each block from `from` on below b is in use once or free. Assumes nothing.
 use native.Mathlib.Omega.{arith}
 use borrow.Author.Count.{below_more}
 use Rattle.card_map.proofs.Map.{bit_below}

@@ -1,3 +1,4 @@
+-- `check_walk::queue::scan` meets its contract. The loop's invariant: the first j children are noted (`Noting`), and p knows its block. Assumes nothing.
 use borrow.Author.Rules.{rules}
 use native.Mathlib.Omega.{arith}
 use mathlib.Core.Path.{refl}

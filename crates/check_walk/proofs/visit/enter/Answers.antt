@@ -1,3 +1,4 @@
+-- `check_walk::visit::enter` meets its contract: inode n met and its children noted is one step more of the walk, and a whole card refuses neither. Assumes nothing.
 use native.Mathlib.Omega.{arith}
 use mathlib.Core.Path.{◌≡◌, ◌∙◌}
 use Rattle.words.proofs.Answers.{when-not-true, when_not_false}

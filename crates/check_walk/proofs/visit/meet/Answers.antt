@@ -1,3 +1,4 @@
+-- `check_walk::visit::meet` meets its contract: what the three tests say together. Assumes nothing.
 use Rattle.words.proofs.Answers.{when-not-true, when_not_false}
 use Rattle.check_marks.proofs.Heads.{head_of, inode_fits}
 use Rattle.check_walk.specs.Inner.{ill}

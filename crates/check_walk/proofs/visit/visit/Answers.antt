@@ -1,3 +1,4 @@
+-- `check_walk::visit::visit` meets its contract: an inode of the queue that does not decode is on no whole card. Assumes nothing.
 use native.Mathlib.Omega.{arith}
 use mathlib.Core.Path.{refl, sym, ◌∙◌}
 use lib.ListN.{get_or}

@@ -1,3 +1,4 @@
+-- `dir_answers::judging::is_there` meets its contract. A reached inode of a whole card can be read, and its entries are few. Assumes nothing.
 use mathlib.Core.Path.{refl}
 use Rattle.dir_answers.proofs.Ready.{readable_ready, entries_inside, entries-few}
 use Rattle.dir_answers.proofs.Heads.{head_is}

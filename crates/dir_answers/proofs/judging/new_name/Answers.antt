@@ -1,3 +1,4 @@
+-- `dir_answers::judging::new_name` meets its contract. Each way out is a case of `new_name`; the head's size is the card's. Assumes nothing.
 use mathlib.Core.Path.{sym, ◌∙◌}
 use native.Mathlib.Omega.{arith}
 use borrow.Author.Tests.{not-false}

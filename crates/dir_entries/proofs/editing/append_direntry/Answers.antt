@@ -1,3 +1,4 @@
+-- `dir_entries::editing::append_direntry` meets its contract. Assumes nothing.
 use Rattle.dir_entries.specs.Entries.{appended}
 use Rattle.dir_entries.proofs.editing.append_direntry.Goals as goal
 

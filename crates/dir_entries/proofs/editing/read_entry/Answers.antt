@@ -1,3 +1,4 @@
+-- `dir_entries::editing::read_entry` meets its contract. Assumes nothing.
 use Rattle.dir_entries.specs.Entries.{entry_at}
 use Rattle.dir_entries.proofs.editing.read_entry.Goals as goal
 

@@ -1,3 +1,4 @@
+-- `dir_entries::editing::remove_direntry` meets its contract. The last entry is read before the hole is filled. Assumes nothing.
 use Rattle.dir_entries.specs.Entries.{removed}
 use Rattle.dir_entries.proofs.editing.remove_direntry.Goals as goal
 

@@ -1,3 +1,4 @@
+-- `dir_entries::editing::write_entry` meets its contract. Assumes nothing.
 use Rattle.dir_entries.specs.Entries.{entry_put}
 use Rattle.dir_entries.proofs.editing.write_entry.Goals as goal
 

@@ -1,3 +1,4 @@
+-- `dir_entries::finding::begins` meets its contract. The invariant: the names are the same where what is left of them from place i on is. Assumes nothing.
 use native.Mathlib.Omega.{arith}
 use mathlib.Core.Path.{sym, ◌∙◌}
 use Rattle.dir_entries.proofs.Comparing.{place_nul, place_other, place_same, place_end}

@@ -1,3 +1,4 @@
+-- `dir_entries::finding::find_entry` meets its contract. The invariant: b is block c, and the entries before k have other names. Assumes nothing.
 use native.Mathlib.Omega.{arith}
 use mathlib.Core.Path.{sym, ◌∙◌}
 use Rattle.check_names.proofs.Entries.{nowhere_block}

@@ -1,3 +1,4 @@
+-- `dir_entries::finding::is_dots` meets its contract, by length and bytes. Assumes nothing.
 use mathlib.Core.Path.{sym}
 use Rattle.dir_entries.proofs.Given.{dots_one, dots_two, dots-length, dots_other}
 use Rattle.dir_entries.proofs.finding.is_dots.Goals as goal

@@ -1,3 +1,4 @@
+-- `dir_entries::finding::named` meets its contract: the bytes that tell stand in the entry's first block (`name_told`). Assumes nothing.
 use native.Mathlib.Omega.{arith}
 use mathlib.Core.Path.{◌≡◌, refl, ap, ◌∙◌}
 use Prim.Native.Nat.{ℕ, ◌+◌, ◌-◌, ◌*◌, ◌/◌, ◌%◌}

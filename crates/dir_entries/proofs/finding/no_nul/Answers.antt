@@ -1,3 +1,4 @@
+-- `dir_entries::finding::no_nul` meets its contract. The invariant: x holds no NUL where what is left of it from place i on holds none. Assumes nothing.
 use native.Mathlib.Omega.{arith}
 use mathlib.Core.Path.{sym, ◌∙◌}
 use Rattle.dir_entries.proofs.Given.{none_here, none_next, none_end}

@@ -1,3 +1,4 @@
+-- `dir_entries::finding::same` meets its contract: a name that does not end where x does, or ends otherwise, is another (`eqs_open`, `eqs_tail`). Assumes nothing.
 use mathlib.Core.Path.{sym, ◌∙◌}
 use borrow.Author.Tests.{eqb-false, not-true}
 use Rattle.dir_entries.proofs.Comparing.{eqs_open, eqs-long, eqs_tail}

@@ -1,3 +1,4 @@
+-- `file_requests::requests::judge` meets its contract. Each way out is a case of `judged`; the old blocks stand on the other side of the test. Assumes nothing.
 use mathlib.Core.Path.{sym}
 use native.Mathlib.Omega.{arith}
 use Rattle.file_requests.proofs.Answers.{owned_below, judged-long, judged-full, judged-fits}

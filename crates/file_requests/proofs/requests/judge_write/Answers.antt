@@ -1,3 +1,4 @@
+-- `file_requests::requests::judge_write` meets its contract. What ends past 4,294,967,295 is past every size and every length. Assumes nothing.
 use mathlib.Core.Path.{sym, ◌∙◌}
 use Prim.Native.Nat.{◌+◌}
 use native.Mathlib.Omega.{arith}

@@ -1,3 +1,4 @@
+-- `file_requests::requests::reach` meets its contract. Each way out is a case of `reaching`. Assumes nothing.
 use mathlib.Core.Path.{sym, ap, ◌∙◌}
 use Rattle.file_requests.specs.Resizing.{new_zero}
 use native.Mathlib.Omega.{arith}

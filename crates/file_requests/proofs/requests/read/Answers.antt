@@ -1,3 +1,4 @@
+-- `file_requests::requests::read` meets its contract. The head decides (`read_bad`). Assumes nothing.
 use mathlib.Core.Path.{sym, ◌∙◌}
 use Rattle.file_requests.proofs.Calls.{read_bad}
 use Rattle.file_requests.proofs.requests.read.Goals as goal

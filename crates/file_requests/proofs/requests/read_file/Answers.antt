@@ -1,3 +1,4 @@
+-- `file_requests::requests::read_file` meets its contract. No sum of offset and length is made: what is left of the file is compared. Assumes nothing.
 use mathlib.Core.Path.{◌≡◌, ap}
 use Prim.Native.Nat.{ℕ, ◌+◌, ◌-◌, min}
 use native.Mathlib.Omega.{arith}

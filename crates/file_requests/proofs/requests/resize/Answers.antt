@@ -1,3 +1,4 @@
+-- `file_requests::requests::resize` meets its contract. The head decides (`resize_bad`). Assumes nothing.
 use mathlib.Core.Path.{sym, ◌∙◌}
 use Rattle.file_requests.proofs.Calls.{resize_bad}
 use Rattle.file_requests.proofs.requests.resize.Goals as goal

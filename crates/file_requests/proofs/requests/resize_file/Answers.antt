@@ -1,3 +1,4 @@
+-- `file_requests::requests::resize_file` meets its contract. What is refused changes nothing; what is taken on is a length that fits. Assumes nothing.
 use mathlib.Core.Path.{◌≡◌, sym, ◌∙◌}
 use Rattle.file_requests.specs.declared.Filed.TheVariants.{Done}
 use Rattle.file_requests.proofs.Answers.{judged-within, judged-countless, on-done, on-refused}

@@ -1,3 +1,4 @@
+-- `file_requests::requests::write` meets its contract. The head decides (`write_bad`). Assumes nothing.
 use mathlib.Core.Path.{sym, ◌∙◌}
 use Rattle.file_requests.proofs.Calls.{write_bad}
 use Rattle.file_requests.proofs.requests.write.Goals as goal

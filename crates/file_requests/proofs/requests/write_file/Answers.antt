@@ -1,3 +1,4 @@
+-- `file_requests::requests::write_file` meets its contract. What is refused changes nothing; what is taken on ends at a length that fits. Assumes nothing.
 use mathlib.Core.Path.{sym, ◌∙◌}
 use Prim.Native.Nat.{◌≤◌}
 use Rattle.file_requests.proofs.Answers.{write-within, write-countless, on-done, on-refused}

@@ -1,3 +1,4 @@
+-- `file_requests::resizing::fit` meets its contract. Each way out is a case of `fitted`. Assumes nothing.
 use mathlib.Core.Path.{sym, ◌∙◌}
 use native.Mathlib.Omega.{arith}
 use Rattle.file_requests.proofs.Changes.{fitted_up, fitted_down, fitted_within}

@@ -1,3 +1,4 @@
+-- `file_requests::resizing::resize_to` meets its contract: the length first, then zeros. Assumes nothing.
 use Rattle.file_requests.proofs.Changes.{resized_by}
 use Rattle.file_requests.proofs.resizing.resize_to.Goals as goal
 

@@ -1,3 +1,4 @@
+-- `file_requests::resizing::shorten` meets its contract. Blocks are freed by the record as it was, then the record is written (`shorter_by`). Assumes nothing.
 use Rattle.file_requests.proofs.Changes.{shorter_by}
 use Rattle.file_requests.proofs.resizing.shorten.Goals as goal
 

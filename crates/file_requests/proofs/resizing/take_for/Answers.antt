@@ -1,3 +1,4 @@
+-- `file_requests::resizing::take_for` meets its contract. Growth from the lowest block on, and the record written (`lengthened_by`). Assumes nothing.
 use Rattle.file_requests.proofs.Changes.{lengthened_by}
 use Rattle.file_requests.proofs.resizing.take_for.Goals as goal
 
