@@ -46,7 +46,9 @@ root_record nb = with_direct (with_blocks (with_size (with_links (new_inode Dir)
 
 -- its two entries
 abbrev pub dots_put : ℕ → List ℕ → List ℕ
-dots_put nb img = copied (copied img (block_size * root_block nb) (entry_of 1 dot) 0 entry_size) (block_size * root_block nb + entry_size) (entry_of 1 dots) 0 entry_size
+dots_put nb img =
+    copied (copied img (block_size * root_block nb) (entry_of 1 dot) 0 entry_size)
+    (block_size * root_block nb + entry_size) (entry_of 1 dots) 0 entry_size
 
 unfoldable pub formatted : ℕ → List ℕ → List ℕ
 formatted nb img = dots_put nb (encoded (fresh_map nb (super_put img (fresh_super nb))) 1 (root_record nb))

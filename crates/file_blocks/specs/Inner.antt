@@ -24,8 +24,8 @@ PieceAsks img nb off end j R =
 -- those of file blocks i up to e, whose numbers stand from byte `at` on
 abbrev pub RunAsks : List ℕ → ℕ → ℕ → ℕ → ℕ → ℕ → ℕ → Type 0 → Type 0
 RunAsks img nb at i e off end R =
-    (block_size * nb ≤ length img) × (at + 4 * (e - i) ≤ length img) × (e ≤ 1048576) × (i < e → (off ≤ block_size * i + block_size) × (block_size * e ≤ end + 4095))
-    × (off ≤ end) × R
+    (block_size * nb ≤ length img) × (at + 4 * (e - i) ≤ length img) × (e ≤ 1048576)
+    × (i < e → (off ≤ block_size * i + block_size) × (block_size * e ≤ end + 4095)) × (off ≤ end) × R
 
 -- those of the blocks that second-level block q lists
 abbrev pub PartAsks : List ℕ → ℕ → ℕ → ℕ → ℕ → Type 0 → Type 0

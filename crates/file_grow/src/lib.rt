@@ -4,7 +4,8 @@
 ghost use Rattle.std.specs.Prelude.{◌≡◌, ◌+◌, ◌-◌, ◌*◌, ◌≤◌, ◌<◌, length};
 ghost use Rattle.card_layout.specs.Sizes.{most};
 ghost use Rattle.card_map.specs.Free.{taken};
-ghost use Rattle.file_blocks.specs.Taking.{next_free, grow_run, grow_indirect, grow_double, grow_level, grow_direct, grow_single, grow_part, grow_twofold, grown};
+ghost use Rattle.file_blocks.specs.Taking.{next_free, grow_run, grow_indirect, grow_double, grow_level};
+ghost use Rattle.file_blocks.specs.Taking.{grow_direct, grow_single, grow_part, grow_twofold, grown};
 ghost use Rattle.file_grow.specs.Inner.{cursor_at, growing_at, Moved, Grew};
 ghost use Rattle.file_blocks.specs.Inner.{Sizes};
 

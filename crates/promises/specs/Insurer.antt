@@ -91,7 +91,8 @@ pub record Lasts (m o : ℕ) (img mid : List ℕ) (c : Call) : Type 0 where
 abbrev pub Gives : List ℕ → ℕ → ℕ → ℕ → Type 0
 Gives out m o v =
     Reached out m × (file_byte out m o ≡ v)
-    × ((s s' buf buf' : List ℕ) (off : ℕ) (r : Said) → Read out s s' buf buf' m off r → said_no r ≡ 0 → off ≤ o → o < off + length buf → byte buf' (o - off) ≡ v)
+    × ((s s' buf buf' : List ℕ) (off : ℕ) (r : Said) → Read out s s' buf buf' m off r → said_no r ≡ 0
+    → off ≤ o → o < off + length buf → byte buf' (o - off) ≡ v)
 
 -- Byte o of file m, as long as its length stays above o, is what the last done write to m put there, else what it was; and a public read after these calls
 -- gives that byte. (So it does anywhere in a run: the calls before it are a run.)

@@ -1,5 +1,5 @@
-// The library as C links it (include/sfs.h): a library of Rattle exports nothing to C, so each function here calls the one of crates/sfs that has its name, and has
-// its statement.
+// The library as C links it (include/sfs.h): a library of Rattle exports nothing to C, so each function here calls the one of crates/sfs that has its
+// name, and has its statement.
 #![tactic(auto)]
 
 ghost use Rattle.sfs.specs.Check.{Checked};
