@@ -1,9 +1,16 @@
 -- What a call leaves, by the slot that it used. Assumes nothing.
-use Prim.Native.Nat.{ℕ}
+use Prim.Native.Nat.{ℕ, ◌<◌}
 use mathlib.Core.Path.{◌≡◌}
 use mathlib.Core.List.{List}
+use native.Mathlib.Omega.{arith}
+use Rattle.cache_order.proofs.Laws.{slot_below}
+use Rattle.cache_order.specs.Slots.{slots_in, Fit}
 use Rattle.cache_order.specs.Order.{slot_for, entered, read_status}
 use Rattle.cache.specs.Effects.{Fetched, Stored, read_slots, read_data, used_device, read_buf, write_slots, write_data}
+
+-- the slot that a call uses
+pub used_below : (w d v : List ℕ) (b i : ℕ) (buf : List ℕ) → Fit w d v b buf → i ≡ slot_for w b → i < slots_in w
+used_below w d v b i buf f e = let z = f.sound.sizes.two in rw e (slot_below w b (omega arith))
 
 pub read_made : (w w' d d' v v' : List ℕ) (b i : ℕ) (buf buf' : List ℕ) → i ≡ slot_for w b → w' ≡ entered w i (read_status w b i) b
     → Fetched w d d' v v' b i buf buf'

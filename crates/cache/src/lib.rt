@@ -2,10 +2,12 @@
 #![tactic(auto)]
 
 ghost use Rattle.std.specs.Prelude.{◌≡◌};
+ghost use Rattle.refusals.specs.Refusals.{answer_no};
 ghost use Rattle.cache_order.specs.Order.{started};
 ghost use Rattle.cache.specs.Calls.{ReadCall, WriteCall, SyncCall};
 
-use cache_order::{judge, order};
+use cache_order::{Status, judge, order};
+use refusals::Refusal;
 
 mod blocks;
 
@@ -13,11 +15,8 @@ mod blocks;
 pub fn start(slots: &mut [u32])
     ensures { slots.new ≡ started slots.old }
 {
-    let n = slots.len() / 3;
-    let mut i = 0;
-    while i < n {
+    for i in 0..slots.len() / 3 {
         order::fresh(slots, i);
-        i += 1;
     }
 }
 
@@ -28,41 +27,47 @@ pub fn read(
     slots: &mut [u32],
     block: u32,
     buf: &mut [u8],
-) -> u32
+) -> Result<(), Refusal>
     ensures { ReadCall slots.old slots.new bytes.old bytes.new device.old
-        device.new block buf.old buf.new result }
+        device.new block buf.old buf.new (answer_no result) }
 {
     if !judge::fit(slots, bytes, device, block, buf) {
-        return 12;
+        return Err(Refusal::InvalidParam);
     }
     let i = order::slot_for(slots, block);
     blocks::fetch(slots, bytes, device, block, i, buf);
     order::enter_read(slots, block, i);
-    0
+    Ok(())
 }
 
 // Writes a block of the device through the cache.
-pub fn write(device: &mut [u8], bytes: &mut [u8], slots: &mut [u32], block: u32, buf: &[u8]) -> u32
+pub fn write(
+    device: &mut [u8],
+    bytes: &mut [u8],
+    slots: &mut [u32],
+    block: u32,
+    buf: &[u8],
+) -> Result<(), Refusal>
     ensures { WriteCall slots.old slots.new bytes.old bytes.new device.old
-        device.new block buf.now result }
+        device.new block buf.now (answer_no result) }
 {
     if !judge::fit(slots, bytes, device, block, buf) {
-        return 12;
+        return Err(Refusal::InvalidParam);
     }
     let i = order::slot_for(slots, block);
     blocks::store(slots, bytes, device, block, i, buf);
-    order::enter(slots, i, 2, block);
-    0
+    order::enter(slots, i, Status::Dirty as u32, block);
+    Ok(())
 }
 
 // Writes every dirty block back.
-pub fn sync(device: &mut [u8], bytes: &[u8], slots: &mut [u32]) -> u32
-    ensures { SyncCall slots.old slots.new bytes.now device.old device.new result }
+pub fn sync(device: &mut [u8], bytes: &[u8], slots: &mut [u32]) -> Result<(), Refusal>
+    ensures { SyncCall slots.old slots.new bytes.now device.old device.new (answer_no result) }
 {
     if !judge::sound(slots, bytes, device) {
-        return 12;
+        return Err(Refusal::InvalidParam);
     }
     blocks::flush_all(slots, bytes, device);
     order::clean(slots);
-    0
+    Ok(())
 }

@@ -15,9 +15,8 @@ use Rattle.words.specs.Inner.{Apart}
 use Rattle.words.specs.Runs.{copied, turns}
 use Rattle.words.proofs.Runs.{length-copied, byte-copied_off, byte-copied_in, puts_is, length-puts, byte-puts_off, byte-puts_in, turns_keep}
 use Rattle.cache_order.specs.Slots.{slots_in, status_at, block_at, place_at, Inside, Sound}
-use Rattle.cache_order.specs.Order.{holds, slot_for, entered}
+use Rattle.cache_order.specs.Order.{holds, slot_for, entered, read_status, clean_status, sync_slots}
 use Rattle.cache.specs.Effects.{flushed, roomed, loaded, read_slots, used_device, read_data, read_buf, write_slots, write_data, sync_device}
-use Rattle.cache_order.specs.Order.{read_status, clean_status, sync_slots}
 use Rattle.cache_order.proofs.Laws.{slot_below, sound_device}
 use Rattle.cache_laws.specs.Faithful.{Stands}
 use Rattle.cache_laws.proofs.Search.{Held, holds_true, only}

@@ -1,42 +1,28 @@
 -- Laws of the search for a slot, and of what is sound on a device. Assumes nothing.
-use Prim.Native.Nat.{ℕ, zero, suc, ◌+◌, ◌-◌, ◌%◌, ◌≤◌, ◌<◌}
+use Prim.Native.Nat.{ℕ, zero, suc, ◌+◌, ◌%◌, ◌≤◌, ◌<◌}
 use mathlib.Core.Path.{◌≡◌, ap, ◌∙◌}
 use mathlib.Core.Bool.{Bool, true, false}
 use mathlib.Core.List.{List}
 use mathlib.Core.Logic.{◌≢◌}
 use native.Mathlib.Omega.{arith}
 use native.Mathlib.Decide.{dec_lt, ℕ_discrete}
-use native.Mathlib.Nat.{sub_self}
 use borrow.Author.Tests.{lt-ltb, le-ltb}
 use lib.ListN.{length, get_or, set}
 use lib.Seq.{get_or-set_same, get_or-set_other}
 use lib.Dec.{ltb}
-use Rattle.words.specs.Words.{pick}
+use Rattle.words.specs.Words.{byte, pick}
+use Rattle.words.specs.Runs.{puts}
+use Rattle.words.proofs.Runs.{puts_more, byte-puts_off}
 use Rattle.cache_order.specs.Slots.{slots_in, status_at, block_at, place_at, Alone, Sound, Marked}
-use Rattle.cache_order.specs.Order.{first, hit_of, spare_of, older_of, oldest, room_of, slot_for}
+use Rattle.cache_order.specs.Order.{hit_of, spare_of, older_of, oldest, room_of, slot_for}
 
-module _ (p : ℕ → Bool) (n : ℕ) where
-  -- a turn of a search from i on
-  pub first_here : (i : ℕ) → i < n → p i ≡ true → first p i (n - i) ≡ i
-  unfolding first
-  first_here i l e = let k : n - i ≡ suc (n - (i + 1)) = omega arith in rw (k, e)
-
-  pub first_next : (i : ℕ) → i < n → p i ≡ false → first p i (n - i) ≡ first p (i + 1) (n - (i + 1))
-  unfolding first
-  first_next i l e = let k : n - i ≡ suc (n - (i + 1)) = omega arith in rw (k, e)
-
-  pub first_end : first p n (n - n) ≡ n
-  unfolding first
-  first_end = rw (sub_self n)
-
-pub first_le : (p : ℕ → Bool) (i n : ℕ) → first p i n ≤ i + n
-unfolding first
-first_le p i zero = omega arith
-first_le p i (suc n) = go (p i) (first_le p (i + 1) n)
-  where
-    go : (t : Bool) → first p (i + 1) n ≤ i + 1 + n → pick t i (first p (i + 1) n) ≤ i + suc n
-    go true h = omega arith
-    go false h = omega arith
+-- a turn of a loop that changes by g the words at addr
+pub change_more : (w x : List ℕ) (addr g : ℕ → ℕ) (i v : ℕ) → ((k : ℕ) → k < i → addr i ≢ addr k)
+    → x ≡ puts w addr (λ k. g (byte w (addr k))) i → v ≡ g (byte x (addr i)) → set x (addr i) v ≡ puts w addr (λ k. g (byte w (addr k))) (i + 1)
+change_more w x addr g i v off e f =
+    ap (λ (y : ℕ). set x (addr i) y) (f ∙ ap (λ (y : List ℕ). g (byte y (addr i))) e ∙ ap g (byte-puts_off w addr _ i (addr i) off))
+    ∙ ap (λ (y : List ℕ). set y (addr i) (g (byte w (addr i)))) e
+    ∙ puts_more w addr _ i
 
 pub older_below : (w : List ℕ) (i j n : ℕ) → i < n → j < n → older_of w i j < n
 unfolding older_of

@@ -1,6 +1,6 @@
 -- Which slot a call uses, and the order of use after it (request 11): "A hit moves its slot to the front; a miss takes the lowest unused slot, else
 -- the least recently used of all".
-use Rattle.std.specs.Prelude.{ℕ, zero, suc, ◌+◌, ◌*◌, ◌%◌, Bool, not, ◌&&◌, List, set, eqb, ltb}
+use Rattle.std.specs.Prelude.{ℕ, zero, suc, ◌+◌, ◌*◌, ◌%◌, ◌<◌, ◌≡◌, Bool, not, ◌&&◌, List, set, eqb, ltb, Option, MatchOption}
 use Rattle.words.specs.Words.{pick}
 use Rattle.words.specs.Runs.{puts, turns}
 use Rattle.cache_order.specs.Slots.{slots_in, status_at, block_at, place_at}
@@ -82,3 +82,7 @@ clean_status s = pick (eqb s 2) 1 s
 -- every dirty slot valid
 unfoldable pub sync_slots : List ℕ → List ℕ
 sync_slots w = puts w (λ i. 3 * i) (λ i. clean_status (status_at w i)) (slots_in w)
+
+-- what a search says that looks for i below n: none where i is n
+abbrev pub Found : ℕ → ℕ → Option ℕ → Type 0
+Found i n r = MatchOption r (i ≡ n) (λ k. (k ≡ i) × (k < n))

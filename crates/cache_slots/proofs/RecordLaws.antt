@@ -7,12 +7,13 @@ use mathlib.Core.List.{List, [], ◌∷◌}
 use lib.ListN.{length, get_or, set, take, length-set, length-replicate}
 use lib.Seq.{get_or-set_same, get_or-set_other, ext_get_or, get_or-take, length-take-le, set-get_or}
 use Rattle.cache_order.specs.Slots.{slots_in, status_at, block_at, place_at}
-use Rattle.cache_slots.specs.declared.Status.{Status}
-use Rattle.cache_slots.specs.declared.Status.TheVariants.{Unused, Valid, Dirty}
+use Rattle.cache_order.specs.declared.Status.{Status}
+use Rattle.cache_order.specs.declared.Status.TheVariants.{Unused, Valid, Dirty}
 use Rattle.cache_slots.specs.declared.Slot.{Slot}
 use Rattle.cache_slots.specs.declared.Plain.{Plain}
 use Rattle.cache_slots.specs.Slots.{none}
-use Rattle.cache_slots.specs.Plain.{status_no, status_by, words_of, blank_of, put_of, slot_of, load_to, spread_to}
+use Rattle.cache_order.specs.Status.{status_no, status_by}
+use Rattle.cache_slots.specs.Plain.{words_of, blank_of, put_of, slot_of, load_to, spread_to}
 use Rattle.cache_slots.proofs.PlainLaws.{spread_length}
 
 -- ---- the words of a list of slots
@@ -150,7 +151,8 @@ loaded ss (suc k) l = go (loaded ss k (omega arith))
         room : 3 * k + 3 ≤ length (load_to ss k).words
         room = omega (arith, h.long)
 
-        status : (i : ℕ) → i < suc k → Dec (i ≡ k) → status_at (put_of (load_to ss k) k (get_or ss k none)).words i ≡ status_no (get_or ss i none).status
+        status : (i : ℕ) → i < suc k → Dec (i ≡ k)
+            → status_at (put_of (load_to ss k) k (get_or ss k none)).words i ≡ status_no (get_or ss i none).status
         status i z (yes e) = rw e (put_status (load_to ss k).words k _ _ _ room)
         status i z (no m) = put_off (load_to ss k).words k _ _ _ room (3 * i) (λ p q. m (omega arith)) ∙ h.status i (omega arith)
 
@@ -176,7 +178,8 @@ unfolding spread_to
 spread_at ss a zero i l h = absurd (omega arith)
 spread_at ss a (suc k) i l h = go (ℕ_discrete i k) (λ z. spread_at ss a k i (omega arith) z)
   where
-    go : Dec (i ≡ k) → (i < k → get_or (spread_to ss a k) i none ≡ slot_of a i) → get_or (set (spread_to ss a k) k (slot_of a k)) i none ≡ slot_of a i
+    go : Dec (i ≡ k) → (i < k → get_or (spread_to ss a k) i none ≡ slot_of a i)
+        → get_or (set (spread_to ss a k) k (slot_of a k)) i none ≡ slot_of a i
     go (yes e) ih =
         rw e (get_or-set_same (spread_to ss a k) k (slot_of a k) none (omega (arith, spread_length ss a k)))
     go (no m) ih = get_or-set_other (spread_to ss a k) k i (slot_of a k) none m ∙ ih (omega arith)

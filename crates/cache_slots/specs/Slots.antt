@@ -1,7 +1,7 @@
 -- The slots as a list of records (request 11): what a slot is asked, and what is done to it; and the same of the whole list.
 use Rattle.std.specs.Prelude.{ℕ, ◌+◌, Bool, true, false, List, [], ◌∷◌, map, length, get_or, set, ltb, eqb}
-use Rattle.cache_slots.specs.declared.Status.{Status}
-use Rattle.cache_slots.specs.declared.Status.TheVariants.{Unused, Valid, Dirty}
+use Rattle.cache_order.specs.declared.Status.{Status}
+use Rattle.cache_order.specs.declared.Status.TheVariants.{Unused, Valid, Dirty}
 use Rattle.cache_slots.specs.declared.Slot.{Slot}
 
 -- what `get_or` gives past the end

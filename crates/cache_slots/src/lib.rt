@@ -1,22 +1,18 @@
 // The slots of the block cache as a lent list of records: which one holds a block, the order of use, and the calls. One record by value is asked and
-// changed by functions of its own; the others walk the list.
+// changed by functions of its own; the others walk the list. Slots, data and device stay three parameters, as in cache.
 #![tactic(auto)]
 
-ghost use Rattle.std.specs.Prelude.{◌≡◌, ◌+◌, ◌-◌, ◌<◌, length, get_or, set};
+ghost use Rattle.std.specs.Prelude.{◌≡◌, ◌+◌, ◌*◌, ◌<◌, ◌≤◌, length, get_or, set, MatchResult};
+ghost use Rattle.refusals.specs.Refusals.{answer_no};
+ghost use Rattle.cache_order.specs.Order.{Found};
 ghost use Rattle.cache_slots.specs.Slots.{none, holds_of, later_of, front_of, find_of, visited, touched};
-ghost use Rattle.cache_slots.specs.Plain.{status_no, status_by, few, blank_of, put_of, slot_of, load_to, spread_to, words_of, PlainRead, PlainWrite, PlainSync};
+ghost use Rattle.cache_slots.specs.Plain.{few, put_of, slot_of, load_to, spread_to, words_of, PlainRead, PlainWrite, PlainSync};
 ghost use Rattle.cache.specs.Calls.{ReadCall, WriteCall, SyncCall};
 
-use cache;
+pub use cache_order::Status;
+use refusals::Refusal;
 
-#[derive(Clone, Copy)]
-pub enum Status {
-    Unused,
-    Valid,
-    Dirty,
-}
-
-#[derive(Clone, Copy)]
+#[derive(Clone, Copy, Debug, PartialEq, Eq)]
 pub struct Slot {
     pub status: Status,
     pub block: u32,
@@ -27,12 +23,7 @@ pub struct Slot {
 pub fn holds(s: Slot, block: u32) -> bool
     ensures { result ≡ holds_of s block }
 {
-    let status = s.status;
-    match status {
-        Status::Unused => false,
-        Status::Valid => s.block == block,
-        Status::Dirty => s.block == block,
-    }
+    s.status != Status::Unused && s.block == block
 }
 
 // One place back, where the slot was nearer than old.
@@ -40,11 +31,9 @@ pub fn later(s: Slot, old: u32) -> Slot
     ensures { result ≡ later_of s old }
 {
     if s.order < old {
-        let status = s.status;
         Slot {
-            status: status,
-            block: s.block,
             order: s.order + 1,
+            ..s
         }
     } else {
         s
@@ -55,12 +44,7 @@ pub fn later(s: Slot, old: u32) -> Slot
 pub fn front(s: Slot) -> Slot
     ensures { result ≡ front_of s }
 {
-    let status = s.status;
-    Slot {
-        status: status,
-        block: s.block,
-        order: 0,
-    }
+    Slot { order: 0, ..s }
 }
 
 pub fn get(slots: &[Slot], i: usize) -> Slot
@@ -77,119 +61,61 @@ pub fn set(slots: &mut [Slot], i: usize, s: Slot)
     slots[i] = s;
 }
 
-pub fn find(slots: &[Slot], block: u32) -> usize
-    ensures { result ≡ find_of slots.now block }
+pub fn find(slots: &[Slot], block: u32) -> Option<usize>
+    ensures { Found (find_of slots.now block) (length slots.now) result }
 {
-    let mut i = 0;
-    while i < slots.len() {
-        let s = slots[i];
-        if holds(s, block) {
-            break;
-        }
-        i += 1;
-    }
-    i
+    slots.iter().position(|s| holds(*s, block))
 }
 
+#[tactic(auto, unfolding(crate::specs::Slots::visited))]
 pub fn visit(slots: &mut [Slot], i: usize)
     requires { i < length slots.old }
     ensures { slots.new ≡ visited slots.old i }
 {
     let s = slots[i];
-    let old = s.order;
-    let mut j = 0;
-    while j < slots.len() {
-        let t = slots[j];
-        slots[j] = later(t, old);
-        j += 1;
+    for t in slots.iter_mut() {
+        *t = later(*t, s.order);
     }
     slots[i] = front(s);
 }
 
 // A hit: the slot with that block comes to the front.
-pub fn touch(slots: &mut [Slot], block: u32) -> usize
-    ensures { (result ≡ find_of slots.old block) × (slots.new ≡ touched slots.old block) }
+pub fn touch(slots: &mut [Slot], block: u32) -> Option<usize>
+    ensures found { Found (find_of slots.old block) (length slots.old) result }
+    ensures slots { slots.new ≡ touched slots.old block }
 {
-    let i = find(slots, block);
-    if i < slots.len() {
-        visit(slots, i);
-    }
-    i
+    let i = find(slots, block)?;
+    visit(slots, i);
+    Some(i)
 }
 
-// The slots as plain words: three for each of the first 64, the number of slots, and the answer of a call.
-#[derive(Clone, Copy)]
+// The slots as plain words: three for each of the first 64, and the number of slots. The words are no Vec: the library has no heap.
+#[derive(Clone, Copy, Debug, PartialEq, Eq)]
 pub struct Plain {
     pub words: [u32; 192],
     pub count: usize,
-    pub answer: u32,
 }
 
-fn status_word(s: Status) -> u32
-    ensures { result ≡ status_no s }
-{
-    match s {
-        Status::Unused => 0,
-        Status::Valid => 1,
-        Status::Dirty => 2,
-    }
-}
-
-fn status_of(x: u32) -> Status
-    ensures { result ≡ status_by x }
-{
-    match x {
-        1 => Status::Valid,
-        2 => Status::Dirty,
-        _ => Status::Unused,
-    }
-}
-
-fn at_most_64(n: usize) -> usize
-    ensures { result ≡ few n }
-{
-    if n < 64 { n } else { 64 }
-}
-
-fn blank(count: usize) -> Plain
-    ensures { result ≡ blank_of count }
-{
-    let words = [0u32; 192];
-    Plain {
-        words: words,
-        count: count,
-        answer: 0,
-    }
-}
-
-fn put(a: Plain, i: usize, s: Slot) -> Plain
+#[tactic(auto, unfolding(crate::specs::Plain::put_of))]
+fn put(a: &mut Plain, i: usize, s: Slot)
     requires { i < 64 }
-    ensures { result ≡ put_of a i s }
+    ensures { a.new ≡ put_of a.old i s }
 {
-    let mut words = a.words;
     let at = 3 * i;
-    let status = s.status;
-    words[at] = status_word(status);
-    words[at + 1] = s.block;
-    words[at + 2] = s.order;
-    Plain {
-        words: words,
-        count: a.count,
-        answer: a.answer,
-    }
+    a.words[at] = u32::from(s.status);
+    a.words[at + 1] = s.block;
+    a.words[at + 2] = s.order;
 }
 
-fn slot_of(a: Plain, i: usize) -> Slot
+fn slot_of(a: &Plain, i: usize) -> Slot
     requires { i < 64 }
-    ensures { result ≡ slot_of a i }
+    ensures { result ≡ slot_of a.now i }
 {
-    let words = a.words;
     let at = 3 * i;
-    let status = status_of(words[at]);
     Slot {
-        status: status,
-        block: words[at + 1],
-        order: words[at + 2],
+        status: Status::try_from(a.words[at]).unwrap_or(Status::Unused),
+        block: a.words[at + 1],
+        order: a.words[at + 2],
     }
 }
 
@@ -197,13 +123,12 @@ fn slot_of(a: Plain, i: usize) -> Slot
 pub fn to_words(slots: &[Slot]) -> Plain
     ensures { result ≡ load_to slots.now (few (length slots.now)) }
 {
-    let n = at_most_64(slots.len());
-    let mut a = blank(slots.len());
-    let mut i = 0;
-    while i < n {
-        let s = slots[i];
-        a = put(a, i, s);
-        i += 1;
+    let mut a = Plain {
+        words: [0; 192],
+        count: slots.len(),
+    };
+    for i in 0..slots.len().min(64) {
+        put(&mut a, i, slots[i]);
     }
     a
 }
@@ -212,85 +137,59 @@ pub fn to_words(slots: &[Slot]) -> Plain
 pub fn from_words(slots: &mut [Slot], a: Plain)
     ensures { slots.new ≡ spread_to slots.old a (few (length slots.old)) }
 {
-    let n = at_most_64(slots.len());
-    let mut j = 0;
-    while j < n {
-        slots[j] = slot_of(a, j);
-        j += 1;
+    for j in 0..slots.len().min(64) {
+        slots[j] = slot_of(&a, j);
     }
 }
 
-// A read over the words; more than 64 slots are refused.
+// How many words the slots have; more than 64 slots are refused.
+fn word_count(a: &Plain) -> Result<usize, Refusal>
+    ensures { MatchResult result (λ n. (a.now.count ≤ 64) × (n ≡ 3 * a.now.count))
+        (λ e. (64 < a.now.count) × (e ≡ Refusal.InvalidParam)) }
+{
+    if a.count <= 64 {
+        Ok(3 * a.count)
+    } else {
+        Err(Refusal::InvalidParam)
+    }
+}
+
+// A read over the words.
 pub fn read_plain(
     device: &mut [u8],
     bytes: &mut [u8],
-    a: Plain,
+    a: &mut Plain,
     block: u32,
     buf: &mut [u8],
-) -> Plain
-    ensures { PlainRead a result bytes.old bytes.new device.old device.new block buf.old
-        buf.new }
+) -> Result<(), Refusal>
+    ensures { PlainRead a.old a.new bytes.old bytes.new device.old device.new block
+        buf.old buf.new (answer_no result) }
 {
-    let n = a.count;
-    let mut words = a.words;
-    if 64 < n {
-        return Plain {
-            words: words,
-            count: n,
-            answer: 12,
-        };
-    }
-    let e = 3 * n;
-    let r = cache::read(device, bytes, &mut words[..e], block, buf);
-    Plain {
-        words: words,
-        count: n,
-        answer: r,
-    }
+    let n = word_count(a)?;
+    cache::read(device, bytes, &mut a.words[..n], block, buf)
 }
 
 // A write over the words.
-pub fn write_plain(device: &mut [u8], bytes: &mut [u8], a: Plain, block: u32, buf: &[u8]) -> Plain
-    ensures { PlainWrite a result bytes.old bytes.new device.old device.new block buf.now }
+pub fn write_plain(
+    device: &mut [u8],
+    bytes: &mut [u8],
+    a: &mut Plain,
+    block: u32,
+    buf: &[u8],
+) -> Result<(), Refusal>
+    ensures { PlainWrite a.old a.new bytes.old bytes.new device.old device.new block
+        buf.now (answer_no result) }
 {
-    let n = a.count;
-    let mut words = a.words;
-    if 64 < n {
-        return Plain {
-            words: words,
-            count: n,
-            answer: 12,
-        };
-    }
-    let e = 3 * n;
-    let r = cache::write(device, bytes, &mut words[..e], block, buf);
-    Plain {
-        words: words,
-        count: n,
-        answer: r,
-    }
+    let n = word_count(a)?;
+    cache::write(device, bytes, &mut a.words[..n], block, buf)
 }
 
 // A sync over the words.
-pub fn sync_plain(device: &mut [u8], bytes: &[u8], a: Plain) -> Plain
-    ensures { PlainSync a result bytes.now device.old device.new }
+pub fn sync_plain(device: &mut [u8], bytes: &[u8], a: &mut Plain) -> Result<(), Refusal>
+    ensures { PlainSync a.old a.new bytes.now device.old device.new (answer_no result) }
 {
-    let n = a.count;
-    let mut words = a.words;
-    if 64 < n {
-        return Plain {
-            words: words,
-            count: n,
-            answer: 12,
-        };
-    }
-    let e = 3 * n;
-    let r = cache::sync(device, bytes, &mut words[..e]);
-    Plain {
-        words: words,
-        count: n,
-        answer: r,
-    }
+    let n = word_count(a)?;
+    cache::sync(device, bytes, &mut a.words[..n])
 }
 
 // Reads a block of the device through the cache, over records.
@@ -300,33 +199,40 @@ pub fn read(
     slots: &mut [Slot],
     block: u32,
     buf: &mut [u8],
-) -> u32
+) -> Result<(), Refusal>
     ensures { ReadCall (words_of slots.old) (words_of slots.new) bytes.old bytes.new
-        device.old device.new block buf.old buf.new result }
+        device.old device.new block buf.old buf.new (answer_no result) }
 {
-    let a = to_words(slots);
-    let b = read_plain(device, bytes, a, block, buf);
-    from_words(slots, b);
-    b.answer
+    let mut a = to_words(slots);
+    read_plain(device, bytes, &mut a, block, buf)?;
+    from_words(slots, a);
+    Ok(())
 }
 
 // Writes a block of the device through the cache, over records.
-pub fn write(device: &mut [u8], bytes: &mut [u8], slots: &mut [Slot], block: u32, buf: &[u8]) -> u32
+pub fn write(
+    device: &mut [u8],
+    bytes: &mut [u8],
+    slots: &mut [Slot],
+    block: u32,
+    buf: &[u8],
+) -> Result<(), Refusal>
     ensures { WriteCall (words_of slots.old) (words_of slots.new) bytes.old bytes.new
-        device.old device.new block buf.now result }
+        device.old device.new block buf.now (answer_no result) }
 {
-    let a = to_words(slots);
-    let b = write_plain(device, bytes, a, block, buf);
-    from_words(slots, b);
-    b.answer
+    let mut a = to_words(slots);
+    write_plain(device, bytes, &mut a, block, buf)?;
+    from_words(slots, a);
+    Ok(())
 }
 
 // Writes every dirty block back, over records.
-pub fn sync(device: &mut [u8], bytes: &[u8], slots: &mut [Slot]) -> u32
-    ensures { SyncCall (words_of slots.old) (words_of slots.new) bytes.now device.old device.new result }
+pub fn sync(device: &mut [u8], bytes: &[u8], slots: &mut [Slot]) -> Result<(), Refusal>
+    ensures { SyncCall (words_of slots.old) (words_of slots.new) bytes.now
+        device.old device.new (answer_no result) }
 {
-    let a = to_words(slots);
-    let b = sync_plain(device, bytes, a);
-    from_words(slots, b);
-    b.answer
+    let mut a = to_words(slots);
+    sync_plain(device, bytes, &mut a)?;
+    from_words(slots, a);
+    Ok(())
 }

@@ -1,1 +1,2 @@
 pub mod LookCalls
+pub mod Told

@@ -3,97 +3,56 @@
 
 ghost use Rattle.std.specs.Prelude.{◌≡◌};
 ghost use Rattle.card_layout.specs.Inode.{kind_no};
+ghost use Rattle.call_said.specs.Said.{plain, numbered};
 ghost use Rattle.call_looks.specs.LookCalls.{Found, Listed, Described};
-ghost use Rattle.call_said.specs.declared.Said.TheVariants.{Done};
+ghost use Rattle.call_looks.specs.Told.{bytes_of, field};
 
-use call_said;
-use call_said::Said;
-use card_layout::inode::{Decoded, Head};
+use card_layout::inode::FileType;
 use card_layout::{DIRENT_SIZE, INodeId, inode};
-use check_walk::Opened;
 use dir_look;
+use refusals::Refusal;
 
-pub fn find(image: &[u8], scratch: &mut [u32], p: INodeId, x: &[u8]) -> Said
-    ensures { Found image.now scratch.old scratch.new p.0 x.now result }
+pub fn find(image: &[u8], scratch: &mut [u32], p: INodeId, x: &[u8]) -> Result<INodeId, Refusal>
+    ensures { Found image.now scratch.old scratch.new p.0 x.now (numbered result) }
 {
-    let o = check_walk::open_card(image, scratch, p, p);
-    let Opened::Open(_) = o else {
-        return call_said::of_opened(o);
-    };
-    let r = dir_look::find(image, p, x);
-    call_said::of_acted(r)
+    check_walk::open_card(image, scratch, p, p)?;
+    dir_look::find(image, p, x)
 }
 
-// What is said of an entry, and its bytes: zeros where it is refused.
-#[derive(Clone, Copy)]
-pub struct Listing {
-    pub said: Said,
-    pub entry: [u8; DIRENT_SIZE],
-}
-
-pub fn entry(image: &[u8], scratch: &mut [u32], p: INodeId, k: u64) -> Listing
-    ensures { Listed image.now scratch.old scratch.new p.0 k result.said result.entry }
+// The bytes of an entry.
+pub fn entry(
+    image: &[u8],
+    scratch: &mut [u32],
+    p: INodeId,
+    k: u64,
+) -> Result<[u8; DIRENT_SIZE], Refusal>
+    ensures { Listed image.now scratch.old scratch.new p.0 k (plain result) (bytes_of result) }
 {
-    let o = check_walk::open_card(image, scratch, p, p);
-    let Opened::Open(_) = o else {
-        let said = call_said::of_opened(o);
-        return Listing {
-            said,
-            entry: [0u8; DIRENT_SIZE],
-        };
-    };
-    let r = dir_look::judge_entry(image, p, k);
-    let said = call_said::of_acted(r);
-    let entry = dir_look::entry(image, p, k);
-    Listing { said, entry }
+    check_walk::open_card(image, scratch, p, p)?;
+    dir_look::entry_at(image, p, k)
 }
 
-// What is said of an inode, and its kind, size, blocks and links: 0 where it is refused.
-#[derive(Clone, Copy)]
+// What an inode is.
+#[derive(Clone, Copy, Debug, PartialEq, Eq)]
 pub struct Description {
-    pub said: Said,
-    pub kind: u32,
+    pub kind: FileType,
     pub size: u32,
     pub blocks: u32,
-    pub links: u32,
+    pub links: u16,
 }
 
-fn not_described(said: Said) -> Description
-    ensures { (result.said ≡ said) × (result.kind ≡ 0) × (result.size ≡ 0) × (result.blocks ≡ 0) × (result.links ≡ 0) }
+pub fn metadata(image: &[u8], scratch: &mut [u32], n: INodeId) -> Result<Description, Refusal>
+    ensures { Described image.now scratch.old scratch.new n.0 (plain result)
+        (field result (λ m. kind_no m.kind)) (field result (λ m. m.size)) (field result (λ m. m.blocks)) (field result (λ m. m.links)) }
 {
-    Description {
-        said,
-        kind: 0,
-        size: 0,
-        blocks: 0,
-        links: 0,
-    }
-}
-
-// An inode with the head h.
-fn described(h: Head) -> Description
-    ensures { (result.said ≡ Done) × (result.kind ≡ kind_no h.type_) × (result.size ≡ h.size) × (result.blocks ≡ h.blocks) × (result.links ≡ h.nlinks) }
-{
-    let kind = h.type_;
-    let k = inode::kind_no(kind);
-    Description {
-        said: Said::Done,
-        kind: k as u32,
+    check_walk::open_card(image, scratch, n, n)?;
+    let Some(h) = inode::decode(image, n) else {
+        return Err(Refusal::Damaged);
+    };
+    Ok(Description {
+        kind: h.type_,
         size: h.size,
         blocks: h.blocks,
-        links: h.nlinks as u32,
-    }
-}
-
-pub fn metadata(image: &[u8], scratch: &mut [u32], n: INodeId) -> Description
-    ensures { Described image.now scratch.old scratch.new n.0 result.said result.kind result.size result.blocks result.links }
-{
-    let o = check_walk::open_card(image, scratch, n, n);
-    let Opened::Open(_) = o else {
-        return not_described(call_said::of_opened(o));
-    };
-    let Decoded::Good(h) = inode::decode(image, n) else {
-        return not_described(Said::Damaged);
-    };
-    described(h)
+        links: h.nlinks,
+    })
 }

@@ -1,2 +1,1 @@
 pub mod Opened
-pub mod Values

@@ -13,31 +13,31 @@ use Rattle.words.specs.Sums.{cnt}
 use Rattle.card_layout.specs.Super.{blocks}
 use Rattle.card_layout.specs.Inode.{kind, head_by, decoded}
 use Rattle.card_layout.specs.declared.inode.Head.{Head}
-use Rattle.card_layout.specs.declared.inode.Decoded.{Decoded}
-use Rattle.card_layout.specs.declared.inode.Decoded.TheVariants.{Good, BadKind}
+use Rattle.card_layout.specs.declared.INodeId.{INodeId}
 use Rattle.card_rules.specs.Whole.{Reached, Whole}
 use Rattle.card_rules.proofs.Owners.{inode_below}
 use Rattle.file_blocks.specs.Inner.{Sizes}
 use Rattle.dir_answers.specs.Answers.{of_head}
 use Rattle.check_walk.specs.declared.Counts.{Counts}
-use Rattle.check_walk.specs.declared.Opened.{Opened}
-use Rattle.check_walk.specs.declared.Opened.TheVariants.{Open, ScratchShort, WrongFs, Damaged, NoInode}
-use Rattle.check_walk.specs.Opening.{status_of, blocks_of, Opening, whole, no_inode, damaged, scratch_short, wrong_fs, unsized}
-use Rattle.call_said.specs.Said.{if_open}
+use Rattle.check_walk.specs.Opening.{blocks_of, Opening, whole, no_inode, damaged, scratch_short, wrong_fs, unsized, Opened}
+use Rattle.call_said.specs.Said.{numbered}
+use Rattle.refusals.specs.Refusals.{answer_no, if_done}
+use Rattle.refusals.specs.declared.Refusal.{Refusal}
+use Rattle.std.specs.Prelude.{Option, Some, None, Result, Ok, Err}
 
 -- ---- a kind that is one of the three
 
-no-head : (h : Head) → Good h ≡ BadKind → ⊥
-no-head h e = let z : ◌≡◌ {A = ℕ} 1 0 = ap (λ (d : Decoded). of_head d 0 (λ g. 1)) e in omega arith
+no-head : (h : Head) → Some h ≡ None → ⊥
+no-head h e = let z : ◌≡◌ {A = ℕ} 1 0 = ap (λ (d : Option Head). of_head d 0 (λ g. 1)) e in omega arith
 
-by_tests : (a b c : Bool) (f g h : Head) → pick a (Good f) (pick b (Good g) (pick c (Good h) BadKind)) ≡ BadKind
+by_tests : (a b c : Bool) (f g h : Head) → pick a (Some f) (pick b (Some g) (pick c (Some h) None)) ≡ None
     → (a ≡ false) × (b ≡ false) × (c ≡ false)
 by_tests true b c f g h e = absurd (no-head f e)
 by_tests false true c f g h e = absurd (no-head g e)
 by_tests false false true f g h e = absurd (no-head h e)
 by_tests false false false f g h e = (refl, refl, refl)
 
-unknown_kind : (img : List ℕ) (n : ℕ) → decoded img n ≡ BadKind → 1 ≤ kind img n → kind img n ≤ 3 → ⊥
+unknown_kind : (img : List ℕ) (n : ℕ) → decoded img n ≡ None → 1 ≤ kind img n → kind img n ≤ 3 → ⊥
 unfolding head_by
 unknown_kind img n e l m =
     let k = kind img n in
@@ -57,13 +57,13 @@ module _ {img : List ℕ} (w : Whole img) where
     pub reached_below : n < blocks img
     reached_below = inode_below img w.inodes w.sound n listed
 
-    pub reached_kind : decoded img n ≡ BadKind → ⊥
+    pub reached_kind : decoded img n ≡ None → ⊥
     reached_kind e = let i = w.sound.inode n listed in unknown_kind img n e i.kind_low i.kind_high
 
     pub record_in : 4096 * n + 80 ≤ length img
     record_in = omega (arith, reached_below, w.sound.sized.long)
 
--- ---- the answer Open
+-- ---- the answer Ok
 
 -- the card is whole, has nb blocks, and a and b are inodes of it
 pub record Ready (img : List ℕ) (a b nb : ℕ) : Type 0 where
@@ -73,13 +73,13 @@ pub record Ready (img : List ℕ) (a b nb : ℕ) : Type 0 where
   pub blocks_is : nb ≡ blocks img
 
 module _ {img s s' : List ℕ} {a b : ℕ} {o : Opened} (c : Counts) where
-  pub ready : Opening img s s' a b o → o ≡ Open c → Ready img a b c.blocks
+  pub ready : Opening img s s' a b o → o ≡ Ok c → Ready img a b c.blocks
   ready (whole l w x y e f) q = record { card = w; first = x; second = y; blocks_is = ap blocks_of (sym q ∙ e) }
-  ready (no_inode l w x e f) q = absurd (omega (arith, ap status_of (sym q ∙ e)))
-  ready (damaged z l w e f) q = absurd (omega (arith, ap status_of (sym q ∙ e)))
-  ready (scratch_short z l e f) q = absurd (omega (arith, ap status_of (sym q ∙ e)))
-  ready (wrong_fs l w e f) q = absurd (omega (arith, ap status_of (sym q ∙ e)))
-  ready (unsized l w e f) q = absurd (omega (arith, ap status_of (sym q ∙ e)))
+  ready (no_inode l w x e f) q = absurd (omega (arith, ap answer_no (sym q ∙ e)))
+  ready (damaged z l w e f) q = absurd (omega (arith, ap answer_no (sym q ∙ e)))
+  ready (scratch_short z l e f) q = absurd (omega (arith, ap answer_no (sym q ∙ e)))
+  ready (wrong_fs l w e f) q = absurd (omega (arith, ap answer_no (sym q ∙ e)))
+  ready (unsized l w e f) q = absurd (omega (arith, ap answer_no (sym q ∙ e)))
 
 module _ {img : List ℕ} {a b nb : ℕ} (r : Ready img a b nb) where
   pub ready_sizes : Sizes img nb
@@ -90,13 +90,16 @@ module _ {img : List ℕ} {a b nb : ℕ} (r : Ready img a b nb) where
 
 -- ---- which of its two answers a call has: x where the card is open
 
-pub on_open : {A : Type 0} {o : Opened} (c : Counts) (x r : A) {y : A} → o ≡ Open c → y ≡ x → y ≡ if_open o x r
+pub on_open : {A : Type 0} {o : Opened} (c : Counts) (x r : A) {y : A} → o ≡ Ok c → y ≡ x → y ≡ if_done o x r
 on_open c x r e p = rw e p
 
 -- the answer is a refusal
-pub on_shut : {A : Type 0} (o : Opened) (x r : A) {y : A} → ((c : Counts) → o ≡ Open c → ⊥) → y ≡ r → y ≡ if_open o x r
-on_shut (Open c) x r t p = absurd (t c refl)
-on_shut ScratchShort x r t p = p
-on_shut WrongFs x r t p = p
-on_shut Damaged x r t p = p
-on_shut NoInode x r t p = p
+pub on_shut : {A : Type 0} (o : Opened) (x r : A) {y : A} → ((c : Counts) → o ≡ Ok c → ⊥) → y ≡ r → y ≡ if_done o x r
+on_shut (Ok c) x r t p = absurd (t c refl)
+on_shut (Err e) x r t p = p
+
+-- ---- an answer that names an inode is said with its number
+
+pub numbered_no : (r : Result INodeId Refusal) → answer_no (numbered r) ≡ answer_no r
+numbered_no (Ok n) = refl
+numbered_no (Err e) = refl

@@ -16,7 +16,7 @@ use Rattle.card_layout.specs.declared.inode.FileType.{FileType}
 use Rattle.card_layout.specs.declared.inode.FileType.TheVariants.{File, Dir, SymLink}
 use Rattle.card_layout.specs.declared.inode.Head.{Head}
 use Rattle.card_layout.specs.declared.inode.DiskINode.{DiskINode}
-use Rattle.card_layout.specs.declared.inode.Decoded.TheVariants.{Good}
+use Rattle.std.specs.Prelude.{Some}
 use Rattle.card_layout.specs.Inode.{size, kind, links, count, direct, indirect, double, padding, device, kind_no, block_id, head_at, head_by, decoded, put_words, number_at, directs, put_front, put_back, encoded, Fitting, new_inode, with_size, with_links, with_blocks, with_indirect, with_double, with_direct}
 use Rattle.card_layout.proofs.Words.{length-words, get_or-words, length-put_words, num_out_words, byte_out_words, words_frame, words_same_of, words_lt, bytes_put_words, put_words_lem}
 
@@ -43,7 +43,7 @@ first80 m xs at v l t h = let k : m ≤ 80 = leb→le _ _ t in num_same m xs at 
 
 ruleset fields = (tt, field_words, first_words, field_out, first_out, past_first, same80, first80, length-put, length-put_words, kind_no_lt)
 
-pub head_by-kind : (k : FileType) (img : List ℕ) (n : ℕ) → head_by (kind_no k) img n ≡ Good (head_at img n k)
+pub head_by-kind : (k : FileType) (img : List ℕ) (n : ℕ) → head_by (kind_no k) img n ≡ Some (head_at img n k)
 unfolding head_by
 head_by-kind File img n = refl
 head_by-kind Dir img n = refl
@@ -111,7 +111,7 @@ module _ (img : List ℕ) (n : ℕ) (d : DiskINode) (l : 4096 * n + 80 ≤ lengt
   device-encoded = search fields
 
   -- decoding what was encoded gives it back
-  pub decoded-encoded : decoded (encoded img n d) n ≡ Good d.head
+  pub decoded-encoded : decoded (encoded img n d) n ≡ Some d.head
   decoded-encoded =
       rw (
         kind-encoded,

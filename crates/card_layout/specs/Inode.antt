@@ -1,15 +1,15 @@
 -- The inode record (RULES): "the first 80 bytes of its own block: size (4 bytes) at 0, kind (2) at 4, links (2) at 6, blocks (4) at 8, twelve
 -- direct slots at 12, indirect at 60, double indirect at 64, padding 68 to 71, device number (8) at 72". "An inode's number is its block."
-use Rattle.std.specs.Prelude.{ℕ, zero, suc, ◌+◌, ◌*◌, ◌≤◌, ◌<◌, ◌^◌, ◌≡◌, List, [], ◌∷◌, eqb, length, get_or, set, replicate}
+use Rattle.std.specs.Prelude.{ℕ, zero, suc, ◌+◌, ◌*◌, ◌≤◌, ◌<◌, ◌^◌, ◌≡◌, List, [], ◌∷◌, Option, Some, None, Result, Ok, Err, eqb, length, get_or, set, replicate}
 use Rattle.words.specs.Words.{pick, half, word, long, put_half, put_word, put_long}
 use Rattle.card_layout.specs.Sizes.{blocks_for, block_size}
 use Rattle.card_layout.specs.declared.BlockId.{BlockId}
 use Rattle.card_layout.specs.declared.inode.FileType.{FileType}
 use Rattle.card_layout.specs.declared.inode.FileType.TheVariants.{File, Dir, SymLink}
 use Rattle.card_layout.specs.declared.inode.Head.{Head}
-use Rattle.card_layout.specs.declared.inode.Decoded.{Decoded}
-use Rattle.card_layout.specs.declared.inode.Decoded.TheVariants.{Good, BadKind}
 use Rattle.card_layout.specs.declared.inode.DiskINode.{DiskINode}
+use Rattle.refusals.specs.declared.Refusal.{Refusal}
+use Rattle.refusals.specs.declared.Refusal.TheVariants.{InvalidParam}
 
 -- ---- the record's fields on any bytes
 
@@ -46,6 +46,10 @@ abbrev pub kind_no : FileType → ℕ
 kind_no File = 1
 kind_no Dir = 2
 kind_no SymLink = 3
+
+-- the kind of a number, 12 where it is none: "known kind" is 1, 2 or 3
+abbrev pub kind_of : ℕ → Result FileType Refusal
+kind_of k = pick (eqb k 1) (Ok File) (pick (eqb k 2) (Ok Dir) (pick (eqb k 3) (Ok SymLink) (Err InvalidParam)))
 
 -- the kinds on a card are numbered 1 to this
 abbrev pub last_kind : ℕ
@@ -84,13 +88,13 @@ head_at img n k =
     }
 
 -- the scalar head of record n, by the number of its kind
-unfoldable pub head_by : ℕ → List ℕ → ℕ → Decoded
+unfoldable pub head_by : ℕ → List ℕ → ℕ → Option Head
 head_by k img n =
-    pick (eqb k 1) (Good (head_at img n File))
-    (pick (eqb k 2) (Good (head_at img n Dir))
-    (pick (eqb k 3) (Good (head_at img n SymLink)) BadKind))
+    pick (eqb k 1) (Some (head_at img n File))
+    (pick (eqb k 2) (Some (head_at img n Dir))
+    (pick (eqb k 3) (Some (head_at img n SymLink)) None))
 
-abbrev pub decoded : List ℕ → ℕ → Decoded
+abbrev pub decoded : List ℕ → ℕ → Option Head
 decoded img n = head_by (kind img n) img n
 
 -- the blocks of the n words from `at` on, and the numbers of a list of blocks put there

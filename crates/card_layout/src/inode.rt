@@ -1,20 +1,37 @@
 // The inode record, the first 80 bytes of its own block.
 ghost use Rattle.std.specs.Prelude.{◌≡◌, ◌+◌, ◌*◌, ◌≤◌, ◌<◌, length};
 ghost use Rattle.card_layout.specs.Sizes.{block_size};
-ghost use Rattle.card_layout.specs.Inode.{kind_no, head_at, decoded, directs, put_words, put_front, put_back, encoded, new_inode};
-ghost use Rattle.card_layout.specs.Inode.{with_size, with_links, with_blocks, with_indirect, with_double, with_direct};
+ghost use Rattle.card_layout.specs.Inode.{kind_no, kind_of, head_at, decoded, directs, put_words, put_front, put_back, encoded, new_inode, with_size, with_links, with_blocks, with_indirect, with_double, with_direct};
 
 use crate::{BLKSIZE, BlockId, INodeId, NODEVICE};
+use refusals::Refusal;
+use words::Number;
 
-#[derive(Clone, Copy)]
+// A kind, by its number on the card.
+#[derive(Clone, Copy, Debug, PartialEq, Eq)]
 pub enum FileType {
-    File,
-    Dir,
-    SymLink,
+    File = 1,
+    Dir = 2,
+    SymLink = 3,
+}
+
+impl TryFrom<u32> for FileType {
+    type Error = Refusal;
+
+    ghost try_from_gives = { λ k r. r ≡ kind_of k };
+
+    fn try_from(k: u32) -> Result<FileType, Refusal> {
+        match k {
+            1 => Ok(FileType::File),
+            2 => Ok(FileType::Dir),
+            3 => Ok(FileType::SymLink),
+            _ => Err(Refusal::InvalidParam),
+        }
+    }
 }
 
 // The record's scalars: all of it but the direct slots. The padding is kept as the card has it.
-#[derive(Clone, Copy)]
+#[derive(Clone, Copy, Debug, PartialEq, Eq)]
 pub struct Head {
     pub size: u32,
     pub type_: FileType,
@@ -26,13 +43,7 @@ pub struct Head {
     pub device_inode_id: u64,
 }
 
-#[derive(Clone, Copy)]
-pub enum Decoded {
-    Good(Head),
-    BadKind,
-}
-
-#[derive(Clone, Copy)]
+#[derive(Clone, Copy, Debug, PartialEq, Eq)]
 pub struct DiskINode {
     pub head: Head,
     pub direct: [BlockId; 12],
@@ -41,11 +52,7 @@ pub struct DiskINode {
 pub fn kind_no(k: FileType) -> u16
     ensures { result ≡ kind_no k }
 {
-    match k {
-        FileType::File => 1,
-        FileType::Dir => 2,
-        FileType::SymLink => 3,
-    }
+    k as u16
 }
 
 fn head_of(image: &[u8], n: INodeId, kind: FileType) -> Head
@@ -53,13 +60,13 @@ fn head_of(image: &[u8], n: INodeId, kind: FileType) -> Head
     ensures { result ≡ head_at image.now n.0 kind }
 {
     let at = BLKSIZE * n.0 as usize;
-    let size = words::get32(image, at);
-    let nlinks = words::get16(image, at + 6);
-    let blocks = words::get32(image, at + 8);
-    let indirect = BlockId(words::get32(image, at + 60));
-    let db_indirect = BlockId(words::get32(image, at + 64));
-    let padding = words::get32(image, at + 68);
-    let device_inode_id = words::get64(image, at + 72);
+    let size = u32::get(image, at);
+    let nlinks = u16::get(image, at + 6);
+    let blocks = u32::get(image, at + 8);
+    let indirect = BlockId(u32::get(image, at + 60));
+    let db_indirect = BlockId(u32::get(image, at + 64));
+    let padding = u32::get(image, at + 68);
+    let device_inode_id = u64::get(image, at + 72);
     Head {
         size,
         type_: kind,
@@ -72,17 +79,14 @@ fn head_of(image: &[u8], n: INodeId, kind: FileType) -> Head
     }
 }
 
-pub fn decode(image: &[u8], n: INodeId) -> Decoded
+// The head of record n, where its kind is one.
+#[tactic(auto, unfolding(crate::specs::Inode::head_by))]
+pub fn decode(image: &[u8], n: INodeId) -> Option<Head>
     requires { block_size * n.0 + 80 ≤ length image.now }
     ensures { result ≡ decoded image.now n.0 }
 {
-    let k = words::get16(image, BLKSIZE * n.0 as usize + 4);
-    match k {
-        1 => Decoded::Good(head_of(image, n, FileType::File)),
-        2 => Decoded::Good(head_of(image, n, FileType::Dir)),
-        3 => Decoded::Good(head_of(image, n, FileType::SymLink)),
-        _ => Decoded::BadKind,
-    }
+    let kind = FileType::try_from(u16::get(image, BLKSIZE * n.0 as usize + 4) as u32).ok()?;
+    Some(head_of(image, n, kind))
 }
 
 pub fn slots(image: &[u8], n: INodeId) -> [BlockId; 12]
@@ -91,25 +95,19 @@ pub fn slots(image: &[u8], n: INodeId) -> [BlockId; 12]
 {
     let at = BLKSIZE * n.0 as usize + 12;
     let mut d = [BlockId(0); 12];
-    let mut i = 0;
-    while i < 12 {
-        d[i] = BlockId(words::get32(image, at + 4 * i));
-        i += 1;
+    for i in 0..12 {
+        d[i] = BlockId(u32::get(image, at + 4 * i));
     }
     d
 }
 
+#[tactic(auto, using(crate::proofs::Words::put_words_step), unfolding(crate::specs::Inode::put_words))]
 fn put_slots(image: &mut [u8], at: usize, d: [BlockId; 12])
     requires { at + 48 ≤ length image.old }
     ensures { image.new ≡ put_words image.old at d }
 {
-    let mut p = at;
-    let mut i = 0;
-    while i < 12 {
-        let b = d[i];
-        words::put32(image, p, b.0);
-        p += 4;
-        i += 1;
+    for i in 0..12 {
+        d[i].0.put(image, at + 4 * i);
     }
 }
 
@@ -117,22 +115,20 @@ fn put_front(image: &mut [u8], at: usize, h: Head)
     requires { at + 80 ≤ length image.old }
     ensures { image.new ≡ put_front image.old at h }
 {
-    let type_ = h.type_;
-    let k = kind_no(type_);
-    words::put32(image, at, h.size);
-    words::put16(image, at + 4, k);
-    words::put16(image, at + 6, h.nlinks);
-    words::put32(image, at + 8, h.blocks);
+    h.size.put(image, at);
+    kind_no(h.type_).put(image, at + 4);
+    h.nlinks.put(image, at + 6);
+    h.blocks.put(image, at + 8);
 }
 
 fn put_back(image: &mut [u8], at: usize, h: Head)
     requires { at + 80 ≤ length image.old }
     ensures { image.new ≡ put_back image.old at h }
 {
-    words::put32(image, at + 60, h.indirect.0);
-    words::put32(image, at + 64, h.db_indirect.0);
-    words::put32(image, at + 68, h.padding);
-    words::put64(image, at + 72, h.device_inode_id);
+    h.indirect.0.put(image, at + 60);
+    h.db_indirect.0.put(image, at + 64);
+    h.padding.put(image, at + 68);
+    h.device_inode_id.put(image, at + 72);
 }
 
 pub fn encode(image: &mut [u8], n: INodeId, d: DiskINode)
@@ -140,11 +136,9 @@ pub fn encode(image: &mut [u8], n: INodeId, d: DiskINode)
     ensures { image.new ≡ encoded image.old n.0 d }
 {
     let at = BLKSIZE * n.0 as usize;
-    let head = d.head;
-    let direct = d.direct;
-    put_front(image, at, head);
-    put_slots(image, at + 12, direct);
-    put_back(image, at, head);
+    put_front(image, at, d.head);
+    put_slots(image, at + 12, d.direct);
+    put_back(image, at, d.head);
 }
 
 impl DiskINode {
@@ -200,18 +194,14 @@ impl DiskINode {
     pub fn set_indirect(mut self, b: BlockId) -> Self
         ensures { result ≡ with_indirect self b.0 }
     {
-        let mut h = self.head;
-        h.indirect = b;
-        self.head = h;
+        self.head.indirect = b;
         self
     }
 
     pub fn set_db_indirect(mut self, b: BlockId) -> Self
         ensures { result ≡ with_double self b.0 }
     {
-        let mut h = self.head;
-        h.db_indirect = b;
-        self.head = h;
+        self.head.db_indirect = b;
         self
     }
 }

@@ -7,10 +7,10 @@ pub mod slot;
 pub mod superblock;
 
 // A block's number, and an inode's, which is that of its block: two types, so that no call takes one for the other.
-#[derive(Clone, Copy)]
+#[derive(Clone, Copy, Debug, PartialEq, Eq)]
 pub struct BlockId(pub u32);
 
-#[derive(Clone, Copy)]
+#[derive(Clone, Copy, Debug, PartialEq, Eq)]
 pub struct INodeId(pub u32);
 
 // The magic number of SFS.

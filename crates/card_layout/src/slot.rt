@@ -2,8 +2,9 @@
 ghost use Rattle.std.specs.Prelude.{◌≡◌, ◌≤◌};
 ghost use Rattle.card_layout.specs.Slots.{slot_of, seconds, owned};
 
-// A slot: one of the record, one of the indirect block, one of a block of the second level, or none.
-#[derive(Clone, Copy)]
+// A slot: one of the record, one of the indirect block, one of a block of the second level, or none. None is an arm of the one match that RULES'
+// "Required forms by place" names, and no Option around it.
+#[derive(Clone, Copy, Debug, PartialEq, Eq)]
 pub enum Slot {
     Direct(usize),
     Indirect(usize),

@@ -4,7 +4,9 @@ ghost use Rattle.words.specs.Runs.{copied};
 ghost use Rattle.card_layout.specs.Super.{super_put, unused, put_unused};
 ghost use Rattle.card_layout.specs.Inner.{super_at};
 
-#[derive(Clone, Copy)]
+use words::Number;
+
+#[derive(Clone, Copy, Debug, PartialEq, Eq)]
 pub struct SuperBlock {
     pub magic: u32,
     pub blocks: u32,
@@ -18,11 +20,7 @@ fn info_of(image: &[u8]) -> [u8; 32]
     ensures { result ≡ take 32 (drop 12 image.now) }
 {
     let mut info = [0u8; 32];
-    let mut i = 0;
-    while i < 32 {
-        info[i] = image[12 + i];
-        i += 1;
-    }
+    info.copy_from_slice(&image[12..44]);
     info
 }
 
@@ -30,11 +28,11 @@ pub fn decode(image: &[u8]) -> SuperBlock
     requires { 48 ≤ length image.now }
     ensures { result ≡ super_at image.now }
 {
-    let magic = words::get32(image, 0);
-    let blocks = words::get32(image, 4);
-    let unused_blocks = words::get32(image, 8);
+    let magic = u32::get(image, 0);
+    let blocks = u32::get(image, 4);
+    let unused_blocks = u32::get(image, 8);
     let info = info_of(image);
-    let freemap_blocks = words::get32(image, 44);
+    let freemap_blocks = u32::get(image, 44);
     SuperBlock {
         magic,
         blocks,
@@ -55,24 +53,23 @@ pub fn encode(image: &mut [u8], s: SuperBlock)
     requires { 48 ≤ length image.old }
     ensures { image.new ≡ super_put image.old s }
 {
-    let info = s.info;
-    words::put32(image, 0, s.magic);
-    words::put32(image, 4, s.blocks);
-    words::put32(image, 8, s.unused_blocks);
-    put_info(image, info);
-    words::put32(image, 44, s.freemap_blocks);
+    s.magic.put(image, 0);
+    s.blocks.put(image, 4);
+    s.unused_blocks.put(image, 8);
+    put_info(image, s.info);
+    s.freemap_blocks.put(image, 44);
 }
 
 pub fn unused_blocks(image: &[u8]) -> u32
     requires { 48 ≤ length image.now }
     ensures { result ≡ unused image.now }
 {
-    words::get32(image, 8)
+    u32::get(image, 8)
 }
 
 pub fn set_unused_blocks(image: &mut [u8], v: u32)
     requires { 48 ≤ length image.old }
     ensures { image.new ≡ put_unused image.old v }
 {
-    words::put32(image, 8, v);
+    v.put(image, 8);
 }

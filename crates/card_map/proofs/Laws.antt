@@ -7,12 +7,12 @@ use Rattle.words.specs.Inner.{Apart}
 use Rattle.words.proofs.Numbers.{length-put, byte_out, num_same, num_frame, num_lt, bytes_put, set_put, put_put, put_num_lem}
 use Rattle.words.proofs.Sums.{sum_to_pos}
 use Rattle.card_layout.specs.Super.{unused, put_unused}
-use Rattle.card_map.specs.declared.FreeBlock.TheVariants.{At, Nothing}
 use Rattle.card_map.specs.Bits.{map_byte, map_bit, clear_bit, set_bit, free_bits}
 use Rattle.card_map.specs.Free.{first_from, lowest, taken_at, taken, freed}
 use Rattle.card_map.specs.Inner.{found_below}
 use Rattle.card_map.proofs.Map as M
 use Rattle.card_map.proofs.First.{first_is, first_none, first_hit, first_least, first_range, first_on, first_cong}
+use Rattle.std.specs.Prelude.{Some, None}
 
 -- ---- the lowest free block
 
@@ -66,11 +66,11 @@ lowest_within img i n m l h b =
 pub lowest_past : (img : List ℕ) (i n m : ℕ) → i ≤ n → n ≤ m → n ≤ lowest img i m → lowest img i n ≡ n
 lowest_past img i n m l h b = lowest-none img i n l (λ k p q e. omega (arith, lowest_least img i m k p (omega arith) e))
 
-pub found_below_some : (n b : ℕ) → b < n → found_below n b ≡ At (record { 0 = b })
-found_below_some n b h = ap (λ (t : Bool). pick t (At (record { 0 = b })) Nothing) (lt-ltb b n h)
+pub found_below_some : (n b : ℕ) → b < n → found_below n b ≡ Some (record { 0 = b })
+found_below_some n b h = ap (λ (t : Bool). pick t (Some (record { 0 = b })) None) (lt-ltb b n h)
 
-pub found_below-none : (n b : ℕ) → n ≤ b → found_below n b ≡ Nothing
-found_below-none n b h = ap (λ (t : Bool). pick t (At (record { 0 = b })) Nothing) (le-ltb b n h)
+pub found_below-none : (n b : ℕ) → n ≤ b → found_below n b ≡ None
+found_below-none n b h = ap (λ (t : Bool). pick t (Some (record { 0 = b })) None) (le-ltb b n h)
 
 pub taken_some : (img : List ℕ) (i n : ℕ) → lowest img i n < n → taken img i n ≡ taken_at img (lowest img i n)
 unfolding taken

@@ -8,12 +8,7 @@ ghost use Rattle.card_map.specs.Free.{lowest, taken_at, taken, freed};
 ghost use Rattle.card_map.specs.Inner.{found_below};
 
 use card_layout::{BlockId, superblock};
-
-#[derive(Clone, Copy)]
-pub enum FreeBlock {
-    At(BlockId),
-    Nothing,
-}
+use words::Number;
 
 // Bit b: 1 where the block is free.
 pub fn bit(image: &[u8], b: BlockId) -> u8
@@ -49,6 +44,7 @@ pub fn set_bit(image: &mut [u8], b: BlockId)
 
 // The lowest free block from `from` on in the first `bytes` map bytes, or 8 * bytes where there is none. Eight empty bytes are passed at a time, then
 // one; the first byte that is not empty tells its lowest bit. In the byte of `from` the k bits below it are masked off.
+// One loop with its own index: RULES, "Required forms by place", names it.
 fn search(image: &[u8], from: BlockId, bytes: u32) -> BlockId
     requires { (8192 + bytes ≤ length image.now) × (8 * bytes ≤ most) × (from.0 ≤ 8 * bytes) }
     ensures { result.0 ≡ lowest image.now from.0 (8 * bytes) }
@@ -56,7 +52,7 @@ fn search(image: &[u8], from: BlockId, bytes: u32) -> BlockId
     let mut i = from.0 / 8;
     let mut k = from.0 % 8;
     let found = 'search: loop {
-        if i + 8 <= bytes && words::get64(image, 8192 + i as usize) == 0 {
+        if i + 8 <= bytes && u64::get(image, 8192 + i as usize) == 0 {
             i += 8;
         } else {
             if i >= bytes {
@@ -74,52 +70,43 @@ fn search(image: &[u8], from: BlockId, bytes: u32) -> BlockId
 }
 
 // The lowest free block from `from` on below n.
-pub fn find_free(image: &[u8], from: BlockId, n: u32) -> FreeBlock
+pub fn find_free(image: &[u8], from: BlockId, n: u32) -> Option<BlockId>
     requires { (8192 + (n + 7) / 8 ≤ length image.now) × (n ≤ most) × (from.0 ≤ n) }
     ensures { result ≡ found_below n (lowest image.now from.0 n) }
 {
     let b = search(image, from, (n + 7) / 8);
-    if b.0 < n {
-        return FreeBlock::At(b);
-    }
-    FreeBlock::Nothing
-}
-
-fn less_one(v: u32) -> u32
-    ensures { result ≡ v - 1 }
-{
-    if v == 0 { 0 } else { v - 1 }
+    if b.0 < n { Some(b) } else { None }
 }
 
 // Block b is taken.
+#[tactic(auto, unfolding(crate::specs::Free::taken_at))]
 pub fn take(image: &mut [u8], b: BlockId)
     requires { (48 ≤ length image.old) × (map_byte b.0 < length image.old) }
     ensures { image.new ≡ taken_at image.old b.0 }
 {
     let v = superblock::unused_blocks(image);
     clear_bit(image, b);
-    superblock::set_unused_blocks(image, less_one(v));
+    superblock::set_unused_blocks(image, v.saturating_sub(1));
 }
 
 // Takes the lowest free block from `from` on below n.
-pub fn alloc_block(image: &mut [u8], from: BlockId, n: u32) -> FreeBlock
+#[tactic(auto, unfolding(crate::specs::Free::taken))]
+pub fn alloc_block(image: &mut [u8], from: BlockId, n: u32) -> Option<BlockId>
     requires { (8192 + (n + 7) / 8 ≤ length image.old) × (n ≤ most) × (from.0 ≤ n) }
     ensures { (result ≡ found_below n (lowest image.old from.0 n)) × (image.new ≡ taken image.old from.0 n) }
 {
-    let b = search(image, from, (n + 7) / 8);
-    if b.0 < n {
-        take(image, b);
-        return FreeBlock::At(b);
-    }
-    FreeBlock::Nothing
+    let b = find_free(image, from, n)?;
+    take(image, b);
+    Some(b)
 }
 
 // Block b is freed.
+#[tactic(auto, unfolding(crate::specs::Free::freed))]
 pub fn free_block(image: &mut [u8], b: BlockId)
     requires { (48 ≤ length image.old) × (map_byte b.0 < length image.old) }
     ensures { image.new ≡ freed image.old b.0 }
 {
     let v = superblock::unused_blocks(image);
     set_bit(image, b);
-    superblock::set_unused_blocks(image, std::num::wrapping_add_u32(v, 1));
+    superblock::set_unused_blocks(image, v.wrapping_add(1));
 }

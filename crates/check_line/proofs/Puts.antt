@@ -11,8 +11,8 @@ use lib.Seq.{set_comm, get_or-append-add, take-length, length-take-le}
 use Rattle.words.specs.Words.{byte}
 use Rattle.words.specs.Runs.{puts, copied}
 use Rattle.words.proofs.Runs.{puts_is, puts_paste, copied_add, length-copied}
-use Rattle.check_walk.specs.declared.Opened.{Opened}
 use Rattle.check_line.specs.Line.{line_of, put_at, line_room, line_length, lined}
+use Rattle.check_walk.specs.Opening.{Opened}
 
 pub length-put : (d : List ℕ) (at : ℕ) (xs : List ℕ) → length (put_at d at xs) ≡ length d
 length-put d at xs = length-copied d at xs 0 (length xs)

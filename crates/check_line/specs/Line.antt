@@ -3,8 +3,8 @@
 use Rattle.std.specs.Prelude.{ℕ, zero, suc, ◌+◌, ◌-◌, ◌*◌, ◌/◌, ◌%◌, Bool, List, [], ◌∷◌, ◌++◌, leb, ltb, length}
 use Rattle.words.specs.Words.{pick}
 use Rattle.words.specs.Runs.{copied}
-use Rattle.check_walk.specs.declared.Opened.{Opened}
-use Rattle.check_walk.specs.Opening.{status_of, blocks_of, unused_of}
+use Rattle.check_walk.specs.Opening.{blocks_of, unused_of, Opened}
+use Rattle.refusals.specs.Refusals.{answer_no}
 
 -- ---- the text
 
@@ -50,7 +50,7 @@ check_line s b f = status_text ++ decimal s ++ blocks_text ++ decimal b ++ free_
 
 -- the line of an answer
 abbrev pub line_of : Opened → List ℕ
-line_of r = check_line (status_of r) (blocks_of r) (unused_of r)
+line_of r = check_line (answer_no r) (blocks_of r) (unused_of r)
 
 -- ---- the line in a lent buffer
 

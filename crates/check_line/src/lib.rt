@@ -1,15 +1,17 @@
-// The line that tells a check's answer, in a lent buffer.
+// The line that tells a check's answer, in a lent buffer. It is put by hand: `write!` says of its text only what holds where it answers Ok, and that it may
+// fail, where `check_line` promises the line.
 #![tactic(auto)]
 
 ghost use Rattle.std.specs.Prelude.{◌≡◌, ◌+◌, ◌≤◌, length, take};
 ghost use Rattle.check_line.specs.Line.{decimal, check_line, put_at, line_room, line_length, lined};
 
-use check_walk::Opened;
+use check_walk::Counts;
+use refusals::Refusal;
 
 // The room that a line is given.
 pub const LINE_ROOM: usize = 64;
 
-// How many decimal digits n has.
+// How many decimal digits n has. By while: the library has no ilog10.
 fn width(n: u32) -> usize
     ensures { (result ≡ length (decimal n)) × (result ≤ 10) }
 {
@@ -32,20 +34,17 @@ fn put_text(text: &[u8], out: &mut [u8], at: usize) -> usize
     at + n
 }
 
-// The digits go from the last to the first.
+// The digits go from the last to the first, which is rest % 10 too.
 fn put_number(n: u32, out: &mut [u8], at: usize) -> usize
     requires { at + 10 ≤ length out.old }
     ensures { (result ≡ at + length (decimal n)) × (result ≤ at + 10) × (out.new ≡ put_at out.old at (decimal n)) }
 {
     let end = at + width(n);
-    let mut i = end - 1;
     let mut rest = n;
-    while 9 < rest {
+    for i in (at..end).rev() {
         out[i] = b'0' + (rest % 10) as u8;
         rest /= 10;
-        i -= 1;
     }
-    out[i] = b'0' + rest as u8;
     end
 }
 
@@ -63,9 +62,9 @@ fn put_line(status: u32, blocks: u32, unused: u32, out: &mut [u8]) -> usize
     put_text(b"\n", out, f)
 }
 
-// Puts the line of an answer at the start of out, and answers its length: 0, and nothing is put, where out has less than LINE_ROOM bytes. The last
-// clause is there so that a caller's &out[..n] needs no proof.
-pub fn check_line(r: Opened, out: &mut [u8]) -> usize
+// Puts the line of an answer at the start of out, and answers its length: 0, and nothing is put, where out has less than LINE_ROOM bytes, as
+// `line_length` says, and no Option. The last clause is there so that a caller's &out[..n] needs no proof.
+pub fn check_line(r: Result<Counts, Refusal>, out: &mut [u8]) -> usize
     ensures value { result ≡ line_length r out.old }
     ensures out_after { out.new ≡ lined r out.old }
     ensures upper_bound { (result ≤ length out.new) × (result ≡ length (take result out.new)) }
@@ -74,10 +73,7 @@ pub fn check_line(r: Opened, out: &mut [u8]) -> usize
         return 0;
     }
     match r {
-        Opened::Open(c) => put_line(0, c.blocks, c.unused, out),
-        Opened::ScratchShort => put_line(1, 0, 0, out),
-        Opened::WrongFs => put_line(2, 0, 0, out),
-        Opened::Damaged => put_line(3, 0, 0, out),
-        Opened::NoInode => put_line(4, 0, 0, out),
+        Ok(c) => put_line(0, c.blocks, c.unused, out),
+        Err(e) => put_line(refusals::refusal_no(e), 0, 0, out),
     }
 }

@@ -2,7 +2,7 @@
 use mathlib.Core.Path.{◌≡◌, refl, sym, ap, ◌∙◌, subst}
 use mathlib.Core.List.{List}
 use mathlib.Core.Logic.{⊎_elim}
-use mathlib.Core.Bool.{Bool, true, false, not}
+use mathlib.Core.Bool.{Bool}
 use Prim.Native.Nat.{ℕ, ◌+◌, ◌*◌, ◌≤◌, ◌<◌}
 use native.Mathlib.Omega.{arith}
 use native.Mathlib.Numerals.{add-one}
@@ -12,7 +12,7 @@ use lib.Seq.{get_or-set_same, get_or-set_other}
 use Rattle.words.specs.Words.{word}
 use Rattle.words.specs.Inner.{When}
 use Rattle.words.specs.Sums.{δ, sum_to}
-use Rattle.words.proofs.Answers.{when-not-true, when_not_false, when-map}
+use Rattle.words.proofs.Answers.{when-map}
 use Rattle.words.proofs.Sums.{δ_cases, δ_same, sum_to_zero, sum_to_suc, sum_to_term, sum_to_next}
 use Rattle.check_marks.specs.Inner.{Mark, NoMark, Marks, Clash, run_use}
 
@@ -107,15 +107,8 @@ did_after t u u₁ u₂ f g h m e d =
     when-map t _ _ _ _ (λ p. marks_join f g h m p e) (λ k. clash_after f g h m k (λ b. omega (arith, e b))) d
 
 -- an answer of `mark_run`, over the length k that the code has for c
-module _ (img u u' : List ℕ) (at k c : ℕ) (t : Bool) (e : k ≡ c) (d : Did t u u' (run_use img at k)) where
-  pub did_run : Did t u u' (run_use img at c)
-  did_run = subst (λ (x : ℕ). Did t u u' (run_use img at x)) e d
-
-  pub ran : not t ≡ false → Marks u u' (run_use img at c)
-  ran q = when_not_false t _ _ q did_run
-
-  pub not_ran : not t ≡ true → Clash u (run_use img at c)
-  not_ran q = when-not-true t _ _ q did_run
+pub did_run : (img u u' : List ℕ) (at k c : ℕ) (t : Bool) → k ≡ c → Did t u u' (run_use img at k) → Did t u u' (run_use img at c)
+did_run img u u' at k c t e d = subst (λ (x : ℕ). Did t u u' (run_use img at x)) e d
 
 -- every block that a run names is on the card
 pub run_in : {u u' : List ℕ} (img : List ℕ) (at c : ℕ) → Marks u u' (run_use img at c) → (j : ℕ) → j < c → word img (at + 4 * j) < length u

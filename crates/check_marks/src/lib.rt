@@ -8,22 +8,18 @@ ghost use Rattle.words.specs.Inner.{When, Tells};
 ghost use Rattle.card_layout.specs.Sizes.{block_size};
 ghost use Rattle.card_layout.specs.Inode.{Exact};
 ghost use Rattle.card_rules.specs.View.{owns};
-ghost use Rattle.check_marks.specs.Inner.{Room, Mark, NoMark, Marked};
-ghost use Rattle.check_marks.specs.Inner.{run_use, record_use, slots_at, level_use, LevelAsks, indirect_use, double_use, HeadOf, HeadFits};
+ghost use Rattle.check_marks.specs.Inner.{Room, Mark, NoMark, Marked, run_use, record_use, slots_at, level_use, LevelAsks, indirect_use, double_use, HeadOf, HeadFits};
 
 use card_layout::inode::Head;
 use card_layout::{BLKSIZE, BlockId, INodeId, slot};
-use words::order;
+use words::Number;
 
-// Marks block b, if it is a block and is not in use yet.
+// Marks block b, if it is a block and is not in use yet. By index: with get_mut its proof did not close.
 pub fn mark(u: &mut [u32], b: BlockId) -> bool
     ensures { When result (Mark u.old u.new b.0) (NoMark u.old u.new b.0) }
 {
     let b = b.0 as usize;
-    if u.len() <= b {
-        return false;
-    }
-    if u[b] != 0 {
+    if u.len() <= b || u[b] != 0 {
         return false;
     }
     u[b] = 1;
@@ -35,15 +31,10 @@ fn mark_run(image: &[u8], u: &mut [u32], at: usize, c: usize) -> bool
     requires { (at + 4 * c ≤ length image.now) × (c ≤ 1024) }
     ensures { Marked result u.old u.new (run_use image.now at c) }
 {
-    let mut p = at;
-    let mut j = 0;
-    while j < c {
-        let b = BlockId(words::get32(image, p));
-        if !mark(u, b) {
+    for j in 0..c {
+        if !mark(u, BlockId(u32::get(image, at + 4 * j))) {
             return false;
         }
-        p += 4;
-        j += 1;
     }
     true
 }
@@ -52,7 +43,7 @@ fn mark_run(image: &[u8], u: &mut [u32], at: usize, c: usize) -> bool
 fn one_from(lim: usize, c: usize) -> usize
     ensures { result ≡ pick (ltb c lim) 0 1 }
 {
-    if c < lim { 0 } else { 1 }
+    usize::from(lim <= c)
 }
 
 // Marks the blocks named in inode n's record, of c blocks.
@@ -61,34 +52,24 @@ fn mark_record(image: &[u8], u: &mut [u32], n: INodeId, c: usize) -> bool
     ensures { Marked result u.old u.new (record_use image.now n.0 c) }
 {
     let at = BLKSIZE * n.0 as usize;
-    if !mark(u, BlockId(n.0)) {
-        return false;
-    }
-    if !mark_run(image, u, at + 12, order::least(c, 12)) {
-        return false;
-    }
-    if !mark_run(image, u, at + 60, one_from(12, c)) {
-        return false;
-    }
-    if !mark_run(image, u, at + 64, one_from(1036, c)) {
-        return false;
-    }
-    true
+    mark(u, BlockId(n.0))
+        && mark_run(image, u, at + 12, c.min(12))
+        && mark_run(image, u, at + 60, one_from(12, c))
+        && mark_run(image, u, at + 64, one_from(1036, c))
 }
 
-// Marks the blocks named in the first k blocks of the second level that block d lists, of a file of c blocks.
+// Marks the blocks named in the first k blocks of the second level that block d lists, of a file of c blocks. It goes over words as mark_run does, but one
+// function of both would take a closure that marks, and each call would have to state that closure's contract.
 fn mark_level(image: &[u8], u: &mut [u32], d: BlockId, c: usize, k: usize) -> bool
     requires { LevelAsks image.now u.old d.0 k }
     ensures { Marked result u.old u.new (level_use image.now d.0 c k) }
 {
     let at = BLKSIZE * d.0 as usize;
-    let mut j = 0;
-    while j < k {
-        let q = BLKSIZE * words::get32(image, at + 4 * j) as usize;
+    for j in 0..k {
+        let q = BLKSIZE * u32::get(image, at + 4 * j) as usize;
         if !mark_run(image, u, q, slots_at(c, j)) {
             return false;
         }
-        j += 1;
     }
     true
 }
@@ -98,11 +79,7 @@ fn slots_at(c: usize, j: usize) -> usize
     requires { j < 1024 }
     ensures { result ≡ slots_at c j }
 {
-    let past = 1036 + 1024 * j;
-    if c <= past {
-        return 0;
-    }
-    order::least(c - past, 1024)
+    c.saturating_sub(1036 + 1024 * j).min(1024)
 }
 
 // Marks the data blocks that the indirect block p names, of a file of c blocks.
@@ -110,10 +87,7 @@ fn mark_indirect(image: &[u8], u: &mut [u32], p: BlockId, c: usize) -> bool
     requires { Room image.now u.old × (12 ≤ c → p.0 < length u.old) }
     ensures { Marked result u.old u.new (indirect_use image.now p.0 c) }
 {
-    if c < 12 {
-        return true;
-    }
-    mark_run(image, u, BLKSIZE * p.0 as usize, order::least(c, 1036) - 12)
+    c < 12 || mark_run(image, u, BLKSIZE * p.0 as usize, c.min(1036) - 12)
 }
 
 // Marks the second level that the double indirect block d names, and then the data blocks below it, of a file of c blocks.
@@ -125,10 +99,7 @@ fn mark_double(image: &[u8], u: &mut [u32], d: BlockId, c: usize) -> bool
         return true;
     }
     let k = slot::seconds_of(c);
-    if !mark_run(image, u, BLKSIZE * d.0 as usize, k) {
-        return false;
-    }
-    mark_level(image, u, d, c, k)
+    mark_run(image, u, BLKSIZE * d.0 as usize, k) && mark_level(image, u, d, c, k)
 }
 
 // Marks inode n, whose head is h, and all that it points to.
@@ -137,43 +108,23 @@ pub fn take_inode(image: &[u8], u: &mut [u32], n: INodeId, h: Head) -> bool
     ensures { Marked result u.old u.new (owns image.now n.0) }
 {
     let c = h.blocks as usize;
-    if !mark_record(image, u, n, c) {
-        return false;
-    }
-    if !mark_indirect(image, u, h.indirect, c) {
-        return false;
-    }
-    mark_double(image, u, h.db_indirect, c)
+    mark_record(image, u, n, c)
+        && mark_indirect(image, u, h.indirect, c)
+        && mark_double(image, u, h.db_indirect, c)
 }
 
 // Whether pointer p is there exactly from lim blocks on.
 fn exact(lim: u32, c: u32, p: BlockId) -> bool
     ensures { Tells result (Exact lim c p.0) }
 {
-    if c < lim {
-        if p.0 != 0 {
-            return false;
-        }
-        return true;
-    }
-    if p.0 == 0 {
-        return false;
-    }
-    true
+    (c < lim) == (p == BlockId(0))
 }
 
 // Whether a record's head is right by itself: rule 4. A head that is has at most 1,048,576 blocks.
 pub fn head_ok(h: Head) -> bool
     ensures { When result (HeadFits h × (h.blocks ≤ 1048576)) (HeadFits h → ⊥) }
 {
-    if h.blocks as usize != (h.size as usize + 4095) / BLKSIZE {
-        return false;
-    }
-    if !exact(12, h.blocks, h.indirect) {
-        return false;
-    }
-    if !exact(1036, h.blocks, h.db_indirect) {
-        return false;
-    }
-    true
+    h.blocks as usize == (h.size as usize + 4095) / BLKSIZE
+        && exact(12, h.blocks, h.indirect)
+        && exact(1036, h.blocks, h.db_indirect)
 }

@@ -35,7 +35,9 @@ last_more b q c k l d = record { low = omega (arith, l.low); hit = l.hit; none =
     go x a y (yes e) p = d (ap b (sym e) ∙ p)
     go x a y (no n) p = l.none x a (omega arith) p
 
-module _ (img : List ℕ) (n : ℕ) (w w' : List ℕ) (h lo k v : ℕ) (c : Chains img n w h lo k) (ph : 0 < h) (kb : k < 65535) (kw : h + k < length w) (ev : v ≡ hash (key_at img n lo k)) (e : w' ≡ set (set w (h + k) (v / 65536 * 65536 + get_or w (v % h) 0)) (v % h) (k + 1)) where
+module _ (img : List ℕ) (n : ℕ) (w w' : List ℕ) (h lo k v : ℕ)
+    (c : Chains img n w h lo k) (ph : 0 < h) (kb : k < 65535) (kw : h + k < length w)
+    (ev : v ≡ hash (key_at img n lo k)) (e : w' ≡ set (set w (h + k) (v / 65536 * 65536 + get_or w (v % h) 0)) (v % h) (k + 1)) where
   abbrev b : ℕ → ℕ
   b x = bucket_at img n h lo x
 
@@ -113,7 +115,8 @@ module _ (img : List ℕ) (n h lo k : ℕ) (x : List ℕ) where
   passed_none c l =
       record { low = l.low; hit = l.hit; apart = λ i a b q. l.none i a b (ap (λ (y : List ℕ). hash y % h) q) }
 
-  pub passed_more : (c c' : ℕ) → 0 < c → Passed img n h lo k x c → Last (bucket_at img n h lo) (bucket_at img n h lo (c - 1)) c' (c - 1) → (key_at img n lo (c - 1) ≡ x → ⊥) → Passed img n h lo k x c'
+  pub passed_more : (c c' : ℕ) → 0 < c → Passed img n h lo k x c
+      → Last (bucket_at img n h lo) (bucket_at img n h lo (c - 1)) c' (c - 1) → (key_at img n lo (c - 1) ≡ x → ⊥) → Passed img n h lo k x c'
   passed_more c c' pc p l d =
       record {
         low = omega (arith, l.low, p.low);
@@ -134,7 +137,8 @@ module _ (img : List ℕ) (n h lo k : ℕ) (x : List ℕ) where
 pub window_none : (img : List ℕ) (n lo m : ℕ) → Window img n lo m lo
 window_none img n lo m = record { named = λ k a b. absurd (omega arith); apart = λ i k a b d e. absurd (omega arith) }
 
-pub window_more : (img : List ℕ) (n lo m k j : ℕ) → lo ≤ j → k ≡ min (j - lo) m → Window img n lo m j → Name (name img n j) → Alone img n lo k (name img n j) → Window img n lo m (j + 1)
+pub window_more : (img : List ℕ) (n lo m k j : ℕ) → lo ≤ j → k ≡ min (j - lo) m → Window img n lo m j
+    → Name (name img n j) → Alone img n lo k (name img n j) → Window img n lo m (j + 1)
 window_more img n lo m k j l e w s a =
     record { named = λ y p q. fit y p q (ℕ_discrete y j); apart = λ i y p q r t u. go i y p q r t u (ℕ_discrete y j) }
   where

@@ -119,8 +119,8 @@ module _ (img : List ℕ) (n o : ℕ) where
 
 module _ (img : List ℕ) (n k : ℕ) where
   -- the number by its place on the card
-  pub entry-word : entry img n k ≡ word img (4096 * data_at img n (260 * k / 4096) + 260 * k % 4096)
-  entry-word =
+  pub entry_word : entry img n k ≡ word img (4096 * data_at img n (260 * k / 4096) + 260 * k % 4096)
+  entry_word =
       entry_at img n k
       ∙ num_moved 4 (file_bytes img n (260 * k) 4) img 0 (4096 * data_at img n (260 * k / 4096) + 260 * k % 4096)
       (λ i l.
@@ -177,7 +177,8 @@ upto_prefix (zero ∷ xs) (suc m) h l = refl
 upto_prefix (suc x ∷ xs) (suc m) h l = ap (λ (t : List ℕ). suc x ∷ t) (upto_prefix xs m (omega arith) (omega arith))
 
 -- the name by the part of it that stands in the entry's first block, if that has its NUL
-pub name_near : (img : List ℕ) (n k b a m : ℕ) → b ≡ data_at img n (260 * k / 4096) → a ≡ 4096 * b + 260 * k % 4096 + 4 → m ≤ 256 → 260 * k % 4096 + m ≤ 4092 → a + m ≤ length img
+pub name_near : (img : List ℕ) (n k b a m : ℕ) → b ≡ data_at img n (260 * k / 4096)
+    → a ≡ 4096 * b + 260 * k % 4096 + 4 → m ≤ 256 → 260 * k % 4096 + m ≤ 4092 → a + m ≤ length img
     → length (upto_nul (take m (drop a img))) < m → name img n k ≡ upto_nul (take m (drop a img))
 name_near img n k b a m eb ea em fit l h =
     let f : List ℕ = file_bytes img n (260 * k + 4) 256 in

@@ -1,5 +1,6 @@
 -- Inner: the names of a directory, and chains of names of one hash in lent words.
-use Rattle.std.specs.Prelude.{ℕ, ◌+◌, ◌-◌, ◌*◌, ◌/◌, ◌%◌, ◌≤◌, ◌<◌, ◌≡◌, Bool, List, [], ◌∷◌, length, get_or}
+use Rattle.check_names.specs.declared.directory.Scanned.{Scanned}
+use Rattle.std.specs.Prelude.{Option, Some, None, ℕ, ◌+◌, ◌-◌, ◌*◌, ◌/◌, ◌%◌, ◌≤◌, ◌<◌, ◌≡◌, Bool, List, [], ◌∷◌, length, get_or}
 use Rattle.words.specs.Inner.{When}
 use Rattle.card_layout.specs.Sizes.{block_size, entry_size}
 use Rattle.card_layout.specs.Inode.{count}
@@ -21,6 +22,11 @@ hash x = hash_on x 7
 -- its high half, kept beside a chain's link
 abbrev pub tag : List ℕ → ℕ
 tag x = hash x / 65536
+
+-- what a scan of m bytes says of the name x that stands there: its length and its hash, or that its NUL is not among them
+abbrev pub Scans : Option Scanned → List ℕ → ℕ → Type 0
+Scans (Some s) x m = (s.len ≡ length x) × (s.hash ≡ hash x) × (s.len < m)
+Scans None x m = m ≤ length x
 
 -- ---- a window of names: the k entries from lo on, in h chains
 
@@ -47,7 +53,7 @@ pub record Chains (img : List ℕ) (n : ℕ) (w : List ℕ) (h lo k : ℕ) : Typ
 abbrev pub AloneAsks : List ℕ → List ℕ → ℕ → ℕ → ℕ → ℕ → ℕ → ℕ → Type 0
 AloneAsks img w n h lo k j v =
     (0 < h) × (h + k ≤ length w) × (k ≤ 65535) × Chains img n w h lo k × (lo + k ≤ j) × (entry_size * j + entry_size ≤ block_size * count img n)
-    × Readable img n × (v ≡ hash (name img n j))
+    × Readable img n × (v ≡ hash (name img n j)) × Name (name img n j)
 
 -- a name differs from those of the k entries from lo on
 abbrev pub Alone : List ℕ → ℕ → ℕ → ℕ → List ℕ → Type 0

@@ -5,116 +5,91 @@ ghost use Rattle.words.specs.Inner.{Tells};
 ghost use Rattle.words.specs.Runs.{zeroed};
 ghost use Rattle.card_layout.specs.Sizes.{block_size, entry_size};
 ghost use Rattle.card_layout.specs.Inode.{size, count};
-ghost use Rattle.card_layout.specs.Entry.{upto_nul};
+ghost use Rattle.card_layout.specs.Entry.{upto_nul, Name};
 ghost use Rattle.card_rules.specs.View.{name};
 ghost use Rattle.card_rules.specs.Whole.{Inode, Dots, Names, Dir};
 ghost use Rattle.check_names.specs.InnerReading.{Readable, EntryIn, EntryNear};
-ghost use Rattle.check_names.specs.InnerNames.{hash, AloneAsks, Alone, WindowAsks, NamesAsk, Windowed};
+ghost use Rattle.check_names.specs.InnerNames.{Scans, AloneAsks, Alone, WindowAsks, NamesAsk, Windowed};
 
 use crate::loading;
-use card_layout::{BLKSIZE, BlockId, DIRENT_SIZE, INodeId};
-use words::order;
+use card_layout::{BLKSIZE, BlockId, DIRENT_SIZE, INodeId, entry};
 
-// As wide as a size on the card.
+// As wide as a size on the card; a name of its own in each crate that wants one (docs/DECISIONS.md, "One name for a number").
 const ENTRY: u32 = DIRENT_SIZE as u32;
 
-// A name's length, 256 where it has no NUL, and its hash.
-#[derive(Clone, Copy)]
+// A name's length and its hash.
+#[derive(Clone, Copy, Debug, PartialEq, Eq)]
 pub struct Scanned {
     pub len: usize,
     pub hash: u32,
 }
 
-fn wide(x: u8) -> u64
-    ensures { (result ≡ x) × (result < 256) }
+// Scans the name that e begins with, None where it has no NUL.
+fn scan(e: &[u8]) -> Option<Scanned>
+    ensures { Scans result (upto_nul e.now) (length e.now) }
 {
-    x as u64
-}
-
-fn scan(e: &[u8]) -> Scanned
-    requires { length e.now ≤ 256 }
-    ensures { (result.len ≡ length (upto_nul e.now)) × (result.hash ≡ hash (upto_nul e.now)) }
-{
-    let mut a: u64 = 7;
-    let mut i = 0;
-    while i < e.len() {
-        if e[i] == 0 {
-            break;
+    let mut hash: u32 = 7;
+    for (i, &x) in e.iter().enumerate() {
+        if x == 0 {
+            return Some(Scanned { len: i, hash });
         }
-        a = (a * 2654435761 + wide(e[i])) % 4294967296;
-        i += 1;
+        hash = hash.wrapping_mul(2654435761).wrapping_add(u32::from(x));
     }
-    Scanned {
-        len: i,
-        hash: a as u32,
-    }
-}
-
-// How much of a name stands in the block in which its entry begins, at byte r.
-fn part_of(r: usize) -> usize
-    requires { r ≤ 4092 }
-    ensures { result ≡ min 256 (4092 - r) }
-{
-    if r <= 3836 { 256 } else { 4092 - r }
+    None
 }
 
 // Scans the name of entry k, wherever it stands.
-fn look_far(image: &[u8], n: INodeId, k: usize) -> Scanned
+fn look_far(image: &[u8], n: INodeId, k: usize) -> Option<Scanned>
     requires { EntryIn image.now n.0 k }
-    ensures { (result.len ≡ length (name image.now n.0 k)) × (result.hash ≡ hash (name image.now n.0 k)) }
+    ensures { Scans result (name image.now n.0 k) 256 }
 {
     let e = loading::load_entry(image, n, k);
-    scan(&e[4..260])
+    scan(&e[4..])
 }
 
 // Scans the name of entry k, which begins in block b: where it stands, if its NUL stands there too.
-fn look(image: &[u8], n: INodeId, b: BlockId, k: usize) -> Scanned
+fn look(image: &[u8], n: INodeId, b: BlockId, k: usize) -> Option<Scanned>
     requires { EntryNear image.now n.0 k (entry_size * k / block_size) b.0 }
-    ensures { (result.len ≡ length (name image.now n.0 k)) × (result.hash ≡ hash (name image.now n.0 k)) }
+    ensures { Scans result (name image.now n.0 k) 256 }
 {
     let r = DIRENT_SIZE * k % BLKSIZE;
-    let m = part_of(r);
     let at = BLKSIZE * b.0 as usize + r + 4;
-    let end = at + m;
-    let s = scan(&image[at..end]);
-    if s.len < m {
-        return s;
+    let end = at + (4092 - r).min(256);
+    // No or_else: the closure's contract would have to be written out.
+    match scan(&image[at..end]) {
+        Some(s) => Some(s),
+        None => look_far(image, n, k),
     }
-    look_far(image, n, k)
 }
 
-// Whether two entries have the same name.
-fn same_name(a: &[u8; DIRENT_SIZE], b: &[u8; DIRENT_SIZE]) -> bool
-    ensures { Tells result (upto_nul (drop 4 a.now) ≡ upto_nul (drop 4 b.now)) }
+// Whether entry k's name is x.
+fn is_named(image: &[u8], n: INodeId, k: usize, x: &[u8]) -> bool
+    requires { EntryIn image.now n.0 k × (0 < length x.now) × (length x.now < 256) }
+    ensures { Tells result (name image.now n.0 k ≡ x.now) }
 {
-    let p: &[u8] = a;
-    let q: &[u8] = b;
-    let mut i = 4;
-    while i < DIRENT_SIZE {
-        if p[i] != q[i] {
-            return false;
-        }
-        if p[i] == 0 {
-            return true;
-        }
-        i += 1;
-    }
-    true
+    let e = loading::load_entry(image, n, k);
+    entry::name_of(&e) == x
 }
 
-// Makes the first n words 0.
+// Whether entries i and k have the same name, which is one that can be stored.
+fn same_name(image: &[u8], n: INodeId, i: usize, k: usize) -> bool
+    requires { EntryIn image.now n.0 i × EntryIn image.now n.0 k × Name (name image.now n.0 k) }
+    ensures { Tells result (name image.now n.0 i ≡ name image.now n.0 k) }
+{
+    let e = loading::load_entry(image, n, k);
+    is_named(image, n, i, entry::name_of(&e))
+}
+
+// Makes the first n words 0. No function of this and words::zero: each is one line, and that one's bytes are in the middle of a card.
 pub fn zero(w: &mut [u32], n: usize)
     requires { n ≤ length w.old }
     ensures { w.new ≡ zeroed w.old 0 n }
 {
-    let mut i = 0;
-    while i < n {
-        w[i] = 0;
-        i += 1;
-    }
+    w[..n].fill(0);
 }
 
-// Whether entry j's name, whose hash is v, differs from those of the k entries from lo on.
+// Whether entry j's name, whose hash is v, differs from those of the k entries from lo on. Of a window's numbers only h and lo are those of other functions
+// too, so no struct holds them. By while: it follows a chain.
 fn alone(
     image: &[u8],
     w: &[u32],
@@ -132,12 +107,8 @@ fn alone(
     let mut c = w[v as usize % h] as usize;
     while 0 < c {
         let x = w[h + (c - 1)];
-        if x / 65536 == t {
-            let e = loading::load_entry(image, n, lo + (c - 1));
-            let f = loading::load_entry(image, n, j);
-            if same_name(&e, &f) {
-                return false;
-            }
+        if x / 65536 == t && same_name(image, n, lo + (c - 1), j) {
+            return false;
         }
         c = (x % 65536) as usize;
     }
@@ -161,29 +132,19 @@ fn window(image: &[u8], w: &mut [u32], n: INodeId, e: usize, h: usize, m: usize,
     ensures { (length w.new ≡ length w.old) × Windowed result image.now n.0 lo m e }
 {
     zero(w, h);
-    let mut c = DIRENT_SIZE * lo / BLKSIZE;
-    let mut b = loading::get_disk_block_id(image, n, c);
-    let mut j = lo;
-    let mut k = 0;
-    while j < e {
-        let i = DIRENT_SIZE * j / BLKSIZE;
-        b = loading::get_near(image, n, c, b, i);
-        c = i;
-        let s = look(image, n, b, j);
-        if s.len < 1 {
+    let mut p = loading::nowhere(n);
+    for j in lo..e {
+        p = loading::entry_after(image, n, p, j);
+        let k = (j - lo).min(m);
+        let Some(s) = look(image, n, p.block, j) else {
             return false;
-        }
-        if 255 < s.len {
-            return false;
-        }
-        if !alone(image, w, n, h, lo, k, j, s.hash) {
+        };
+        if s.len == 0 || !alone(image, w, n, h, lo, k, j, s.hash) {
             return false;
         }
         if k < m {
             put(w, h, k, s.hash);
-            k += 1;
         }
-        j += 1;
     }
     true
 }
@@ -194,17 +155,12 @@ fn names_ok(image: &[u8], w: &mut [u32], n: INodeId, e: usize) -> bool
     ensures { (length w.new ≡ length w.old) × Tells result (Names image.now n.0) }
 {
     let q = w.len() / 4;
-    let h = order::least(e, q);
-    let m = order::least(3 * q, 65535);
-    let mut lo = 0;
-    while lo < e {
+    let h = e.min(q);
+    let m = (3 * q).min(65535);
+    for lo in (0..e).step_by(m) {
         if !window(image, w, n, e, h, m, lo) {
             return false;
         }
-        if e - lo <= m {
-            return true;
-        }
-        lo += m;
     }
     true
 }
@@ -214,41 +170,9 @@ fn dots_ok(image: &[u8], n: INodeId) -> bool
     requires { Readable image.now n.0 × (520 ≤ block_size * count image.now n.0) }
     ensures { Tells result (Dots image.now n.0) }
 {
-    let own = loading::entry_number(image, n, 0);
-    if own.0 != n.0 {
-        return false;
-    }
-    let a = loading::load_entry(image, n, 0);
-    if !is_self(&a) {
-        return false;
-    }
-    let b = loading::load_entry(image, n, 1);
-    is_parent(&b)
-}
-
-// Whether an entry's name is ".".
-fn is_self(e: &[u8; DIRENT_SIZE]) -> bool
-    ensures { Tells result (upto_nul (drop 4 e.now) ≡ 46 ∷ []) }
-{
-    let b: &[u8] = e;
-    if b[4] != 46 {
-        return false;
-    }
-    b[5] == 0
-}
-
-// Whether an entry's name is "..".
-fn is_parent(e: &[u8; DIRENT_SIZE]) -> bool
-    ensures { Tells result (upto_nul (drop 4 e.now) ≡ 46 ∷ 46 ∷ []) }
-{
-    let b: &[u8] = e;
-    if b[4] != 46 {
-        return false;
-    }
-    if b[5] != 46 {
-        return false;
-    }
-    b[6] == 0
+    loading::entry_number(image, n, 0) == n
+        && is_named(image, n, 0, b".")
+        && is_named(image, n, 1, b"..")
 }
 
 // Whether directory n, of z bytes, is a good one by itself. The words of w are free to use.
@@ -256,14 +180,8 @@ pub fn dir_ok(image: &[u8], w: &mut [u32], n: INodeId, z: u32) -> bool
     requires { (16 ≤ length w.old) × (z ≡ size image.now n.0) × Readable image.now n.0 × Inode image.now n.0 }
     ensures { (length w.new ≡ length w.old) × Tells result (Dir image.now n.0) }
 {
-    if z % ENTRY != 0 {
-        return false;
-    }
-    if z < 520 {
-        return false;
-    }
-    if !dots_ok(image, n) {
-        return false;
-    }
-    names_ok(image, w, n, z as usize / DIRENT_SIZE)
+    z % ENTRY == 0
+        && 520 <= z
+        && dots_ok(image, n)
+        && names_ok(image, w, n, z as usize / DIRENT_SIZE)
 }

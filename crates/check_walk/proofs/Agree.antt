@@ -7,9 +7,10 @@ use native.Mathlib.Omega.{arith}
 use lib.ListN.{length}
 use Rattle.card_layout.specs.Super.{right_magic, magic, blocks}
 use Rattle.card_rules.specs.Whole.{Sized, Reached, root, Whole}
-use Rattle.check_walk.specs.declared.Opened.{Opened}
-use Rattle.check_walk.specs.declared.Opened.TheVariants.{Open, ScratchShort, WrongFs, Damaged, NoInode}
-use Rattle.check_walk.specs.Opening.{status_of, counts_at, cleared, Opening, whole, no_inode, damaged, scratch_short, wrong_fs, unsized}
+use Rattle.check_walk.specs.Opening.{counts_at, cleared, Opening, whole, no_inode, damaged, scratch_short, wrong_fs, unsized, Opened}
+use Rattle.refusals.specs.Refusals.{answer_no}
+use Rattle.refusals.specs.declared.Refusal.TheVariants.{ScratchShort, WrongFs, Damaged, NoInode}
+use Rattle.std.specs.Prelude.{Ok, Err}
 
 both : {r q : Opened} {s t : List ℕ} (k : Opened) (u : List ℕ) → r ≡ k → q ≡ k → s ≡ u → t ≡ u → (r ≡ q) × (s ≡ t)
 both k u a b c d = (a ∙ sym b, c ∙ sym d)
@@ -63,81 +64,81 @@ pub data Broken (img s : List ℕ) : Type 0 where
 module _ {img s s' : List ℕ} {a b : ℕ} {r : Opened} where
   -- ---- what each status says
 
-  status_0 : Opening img s s' a b r → status_of r ≡ 0 → (4 * blocks img ≤ length s) × Whole img × Reached img a × Reached img b
+  status_0 : Opening img s s' a b r → answer_no r ≡ 0 → (4 * blocks img ≤ length s) × Whole img × Reached img a × Reached img b
   status_0 (whole l w x y e f) k = (l, w, x, y)
-  status_0 (no_inode l w x e f) k = absurd (omega (arith, ap status_of e))
-  status_0 (damaged z l w e f) k = absurd (omega (arith, ap status_of e))
-  status_0 (scratch_short z l e f) k = absurd (omega (arith, ap status_of e))
-  status_0 (wrong_fs l w e f) k = absurd (omega (arith, ap status_of e))
-  status_0 (unsized l w e f) k = absurd (omega (arith, ap status_of e))
+  status_0 (no_inode l w x e f) k = absurd (omega (arith, ap answer_no e))
+  status_0 (damaged z l w e f) k = absurd (omega (arith, ap answer_no e))
+  status_0 (scratch_short z l e f) k = absurd (omega (arith, ap answer_no e))
+  status_0 (wrong_fs l w e f) k = absurd (omega (arith, ap answer_no e))
+  status_0 (unsized l w e f) k = absurd (omega (arith, ap answer_no e))
 
-  status_1 : Opening img s s' a b r → status_of r ≡ 1 → Sized img × (length s < 4 * blocks img)
-  status_1 (whole l w x y e f) k = absurd (omega (arith, ap status_of e))
-  status_1 (no_inode l w x e f) k = absurd (omega (arith, ap status_of e))
-  status_1 (damaged z l w e f) k = absurd (omega (arith, ap status_of e))
+  status_1 : Opening img s s' a b r → answer_no r ≡ 1 → Sized img × (length s < 4 * blocks img)
+  status_1 (whole l w x y e f) k = absurd (omega (arith, ap answer_no e))
+  status_1 (no_inode l w x e f) k = absurd (omega (arith, ap answer_no e))
+  status_1 (damaged z l w e f) k = absurd (omega (arith, ap answer_no e))
   status_1 (scratch_short z l e f) k = (z, l)
-  status_1 (wrong_fs l w e f) k = absurd (omega (arith, ap status_of e))
-  status_1 (unsized l w e f) k = absurd (omega (arith, ap status_of e))
+  status_1 (wrong_fs l w e f) k = absurd (omega (arith, ap answer_no e))
+  status_1 (unsized l w e f) k = absurd (omega (arith, ap answer_no e))
 
-  status_2 : Opening img s s' a b r → status_of r ≡ 2 → (4096 ≤ length img) × (magic img ≡ right_magic → ⊥)
-  status_2 (whole l w x y e f) k = absurd (omega (arith, ap status_of e))
-  status_2 (no_inode l w x e f) k = absurd (omega (arith, ap status_of e))
-  status_2 (damaged z l w e f) k = absurd (omega (arith, ap status_of e))
-  status_2 (scratch_short z l e f) k = absurd (omega (arith, ap status_of e))
+  status_2 : Opening img s s' a b r → answer_no r ≡ 2 → (4096 ≤ length img) × (magic img ≡ right_magic → ⊥)
+  status_2 (whole l w x y e f) k = absurd (omega (arith, ap answer_no e))
+  status_2 (no_inode l w x e f) k = absurd (omega (arith, ap answer_no e))
+  status_2 (damaged z l w e f) k = absurd (omega (arith, ap answer_no e))
+  status_2 (scratch_short z l e f) k = absurd (omega (arith, ap answer_no e))
   status_2 (wrong_fs l w e f) k = (l, w)
-  status_2 (unsized l w e f) k = absurd (omega (arith, ap status_of e))
+  status_2 (unsized l w e f) k = absurd (omega (arith, ap answer_no e))
 
-  status_3 : Opening img s s' a b r → status_of r ≡ 3 → Broken img s
-  status_3 (whole l w x y e f) k = absurd (omega (arith, ap status_of e))
-  status_3 (no_inode l w x e f) k = absurd (omega (arith, ap status_of e))
+  status_3 : Opening img s s' a b r → answer_no r ≡ 3 → Broken img s
+  status_3 (whole l w x y e f) k = absurd (omega (arith, ap answer_no e))
+  status_3 (no_inode l w x e f) k = absurd (omega (arith, ap answer_no e))
   status_3 (damaged z l w e f) k = rules z l w
-  status_3 (scratch_short z l e f) k = absurd (omega (arith, ap status_of e))
-  status_3 (wrong_fs l w e f) k = absurd (omega (arith, ap status_of e))
+  status_3 (scratch_short z l e f) k = absurd (omega (arith, ap answer_no e))
+  status_3 (wrong_fs l w e f) k = absurd (omega (arith, ap answer_no e))
   status_3 (unsized l w e f) k = sizes l w
 
-  status_4 : Opening img s s' a b r → status_of r ≡ 4 → (4 * blocks img ≤ length s) × Whole img × (Reached img a → Reached img b → ⊥)
-  status_4 (whole l w x y e f) k = absurd (omega (arith, ap status_of e))
+  status_4 : Opening img s s' a b r → answer_no r ≡ 4 → (4 * blocks img ≤ length s) × Whole img × (Reached img a → Reached img b → ⊥)
+  status_4 (whole l w x y e f) k = absurd (omega (arith, ap answer_no e))
   status_4 (no_inode l w x e f) k = (l, w, x)
-  status_4 (damaged z l w e f) k = absurd (omega (arith, ap status_of e))
-  status_4 (scratch_short z l e f) k = absurd (omega (arith, ap status_of e))
-  status_4 (wrong_fs l w e f) k = absurd (omega (arith, ap status_of e))
-  status_4 (unsized l w e f) k = absurd (omega (arith, ap status_of e))
+  status_4 (damaged z l w e f) k = absurd (omega (arith, ap answer_no e))
+  status_4 (scratch_short z l e f) k = absurd (omega (arith, ap answer_no e))
+  status_4 (wrong_fs l w e f) k = absurd (omega (arith, ap answer_no e))
+  status_4 (unsized l w e f) k = absurd (omega (arith, ap answer_no e))
 
   -- ---- each status exactly for its cause: the way back is `agree` with the case that has the cause
 
   module _ (o : Opening img s s' a b r) where
     -- the answer is that of any case that applies
-    same : {x : List ℕ} (q : Opened) → Opening img s x a b q → status_of r ≡ status_of q
-    same q p = ap status_of (agree o p).0
+    same : {x : List ℕ} (q : Opened) → Opening img s x a b q → answer_no r ≡ answer_no q
+    same q p = ap answer_no (agree o p).0
 
-    pub opened : (status_of r ≡ 0 → (4 * blocks img ≤ length s) × Whole img × Reached img a × Reached img b)
-        × (4 * blocks img ≤ length s → Whole img → Reached img a → Reached img b → (r ≡ Open (counts_at img)) × (s' ≡ cleared img s))
+    pub opened : (answer_no r ≡ 0 → (4 * blocks img ≤ length s) × Whole img × Reached img a × Reached img b)
+        × (4 * blocks img ≤ length s → Whole img → Reached img a → Reached img b → (r ≡ Ok (counts_at img)) × (s' ≡ cleared img s))
     opened = (status_0 o, λ l w x y. agree o (whole l w x y refl refl))
 
-    pub scratch_short_cause : (status_of r ≡ 1 → Sized img × (length s < 4 * blocks img)) × (Sized img → length s < 4 * blocks img → status_of r ≡ 1)
-    scratch_short_cause = (status_1 o, λ z l. same ScratchShort (scratch_short z l refl refl))
+    pub scratch_short_cause : (answer_no r ≡ 1 → Sized img × (length s < 4 * blocks img)) × (Sized img → length s < 4 * blocks img → answer_no r ≡ 1)
+    scratch_short_cause = (status_1 o, λ z l. same (Err ScratchShort) (scratch_short z l refl refl))
 
-    pub wrong_fs_cause : (status_of r ≡ 2 → (4096 ≤ length img) × (magic img ≡ right_magic → ⊥))
-        × (4096 ≤ length img → (magic img ≡ right_magic → ⊥) → status_of r ≡ 2)
-    wrong_fs_cause = (status_2 o, λ l w. same WrongFs (wrong_fs l w refl refl))
+    pub wrong_fs_cause : (answer_no r ≡ 2 → (4096 ≤ length img) × (magic img ≡ right_magic → ⊥))
+        × (4096 ≤ length img → (magic img ≡ right_magic → ⊥) → answer_no r ≡ 2)
+    wrong_fs_cause = (status_2 o, λ l w. same (Err WrongFs) (wrong_fs l w refl refl))
 
-    broken_damaged : Broken img s → status_of r ≡ 3
-    broken_damaged (sizes l w) = same Damaged (unsized l w refl refl)
-    broken_damaged (rules z l w) = same Damaged (damaged z l w refl refl)
+    broken_damaged : Broken img s → answer_no r ≡ 3
+    broken_damaged (sizes l w) = same (Err Damaged) (unsized l w refl refl)
+    broken_damaged (rules z l w) = same (Err Damaged) (damaged z l w refl refl)
 
-    pub damaged_cause : (status_of r ≡ 3 → Broken img s) × (Broken img s → status_of r ≡ 3)
+    pub damaged_cause : (answer_no r ≡ 3 → Broken img s) × (Broken img s → answer_no r ≡ 3)
     damaged_cause = (status_3 o, broken_damaged)
 
-    pub no_inode_cause : (status_of r ≡ 4 → (4 * blocks img ≤ length s) × Whole img × (Reached img a → Reached img b → ⊥))
-        × (4 * blocks img ≤ length s → Whole img → (Reached img a → Reached img b → ⊥) → status_of r ≡ 4)
-    no_inode_cause = (status_4 o, λ l w x. same NoInode (no_inode l w x refl refl))
+    pub no_inode_cause : (answer_no r ≡ 4 → (4 * blocks img ≤ length s) × Whole img × (Reached img a → Reached img b → ⊥))
+        × (4 * blocks img ≤ length s → Whole img → (Reached img a → Reached img b → ⊥) → answer_no r ≡ 4)
+    no_inode_cause = (status_4 o, λ l w x. same (Err NoInode) (no_inode l w x refl refl))
 
 -- ---- the check, which opens a card for the root
 
 module _ {img s s' : List ℕ} {r : Opened} (o : Opening img s s' 1 1 r) where
-  pub check_whole : (status_of r ≡ 0 → Whole img) × (Whole img → 4 * blocks img ≤ length s → status_of r ≡ 0)
+  pub check_whole : (answer_no r ≡ 0 → Whole img) × (Whole img → 4 * blocks img ≤ length s → answer_no r ≡ 0)
   check_whole =
-      (λ k. (status_0 o k).1, λ w l. ap status_of ((opened o).1 l w root root).0)
+      (λ k. (status_0 o k).1, λ w l. ap answer_no ((opened o).1 l w root root).0)
 
-  pub never_no_inode : r ≡ NoInode → ⊥
-  never_no_inode e = (status_4 o (ap status_of e)).2 root root
+  pub never_no_inode : r ≡ (Err NoInode) → ⊥
+  never_no_inode e = (status_4 o (ap answer_no e)).2 root root

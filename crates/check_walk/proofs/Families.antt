@@ -67,7 +67,8 @@ other_links img n v l d e =
     (λ f t. f (e ∙ t.file_links d))
 
 -- and of a directory that was named once, with c subdirectories
-pub dir_tally : (img : List ℕ) (n v l c : ℕ) → kind img n ≡ 2 → v ≡ 1 → l ≡ links img n → Kept img n c → When (eqb l (2 + c)) (Tally img n v) (Tally img n v → ⊥)
+pub dir_tally : (img : List ℕ) (n v l c : ℕ) → kind img n ≡ 2 → v ≡ 1 → l ≡ links img n → Kept img n c
+    → When (eqb l (2 + c)) (Tally img n v) (Tally img n v → ⊥)
 dir_tally img n v l c d o e k =
     when-eqb l (2 + c) (Tally img n v) (Tally img n v → ⊥)
     (λ q. record { dir_seen = λ _. o; dir_links = λ _. omega (arith, k.subs); dir_ups = λ _. k.ups; file_links = λ f. absurd (f d) })

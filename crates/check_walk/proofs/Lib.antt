@@ -7,3 +7,4 @@ pub mod Counting
 pub mod Judging
 pub mod Clearing
 pub mod Agree
+pub mod HeadKinds

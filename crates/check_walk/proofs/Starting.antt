@@ -6,12 +6,14 @@ use mathlib.Core.Logic.{◌⊎◌, ⊎_elim}
 use Prim.Native.Nat.{ℕ, ◌+◌, ◌-◌, ◌*◌, ◌≤◌, ◌<◌}
 use native.Mathlib.Omega.{arith}
 use native.Mathlib.Decide.{dec_lt}
-use lib.ListN.{length, get_or, set, take, length-set}
+use lib.ListN.{length, get_or, set, take, replicate, length-set, length-replicate, get_or-replicate}
+use borrow.Rule.Slice.PartMut.{put_mid}
+use Rattle.std.proofs.lemmas.Slice.{put_mid-paste}
 use lib.Seq.{get_or-set_same, get_or-set_other, take-suc}
 use Rattle.words.specs.Sums.{δ, sum_to, sum_on, cnt}
 use Rattle.words.specs.Runs.{puts}
 use Rattle.words.proofs.Sums.{δ_cases, δ_same, δ_other, δ_comm, δ_pos, sum_to_cong, sum_to_point, sum_to_none, sum_to-δ, sum_on_nil, sum_on_cons}
-use Rattle.words.proofs.Runs.{length-puts, byte-puts_off, byte-puts_in}
+use Rattle.words.proofs.Runs.{length-puts, byte-puts_off, byte-puts_in, puts_is, puts_paste}
 use Rattle.card_layout.specs.Super.{maps}
 use Rattle.card_rules.specs.View.{times_named, owns}
 use Rattle.card_rules.specs.Whole.{Reached, root}
@@ -169,10 +171,20 @@ module _ (s : List ℕ) (nb f : ℕ) (few : 16 ≤ nb) (fit : 2 + f ≤ nb) (lon
         }
 
 -- what `walk` asks of the scratch that `start` leaves
-pub begins : (img s s₁ : List ℕ) (nb f : ℕ) → Space img s nb → f ≡ maps img → 2 + f ≤ nb → Zero s → s₁ ≡ started s nb f
-    → Space img s₁ nb × Progress img s₁ nb 0 1
-begins img s s₁ nb f space ef fit z e =
+pub begins : (img s t : List ℕ) (nb f : ℕ) → Space img s nb → f ≡ maps img → 2 + f ≤ nb → Zero s → t ≡ started s nb f
+    → Space img t nb × Progress img t nb 0 1
+begins img s t nb f space ef fit z e =
     subst (λ (x : List ℕ). Space img x nb × Progress img x nb 0 1) (sym e) (
       record { few = space.few; many = space.many; card = space.card; words = started-long s nb f space.few fit space.words },
       begun s nb f space.few fit space.words z img ef,
     )
+
+-- the marks of the map's blocks as one fill
+pub filled : (d : List ℕ) (nb f m : ℕ) → 3 * nb + 2 + f ≤ length d → m ≡ f
+    → put_mid (3 * nb + 2) (3 * nb + 2 + f - (3 * nb + 2)) d (replicate m 1) ≡ puts d (λ i. 3 * nb + (2 + i)) (λ i. 1) f
+filled d nb f m l e =
+    let k : f ≡ 3 * nb + 2 + f - (3 * nb + 2) = omega arith in
+    let long : length (replicate {A = ℕ} m 1) ≡ f = length-replicate m 1 ∙ e in
+    put_mid-paste (3 * nb + 2) (3 * nb + 2 + f - (3 * nb + 2)) d (replicate m 1) (replicate m 1) f refl k (sym long)
+    ∙ sym (puts_paste d (3 * nb + 2) (λ k. 1) (replicate m 1) f l (omega (arith, long)) (λ i h. sym (get_or-replicate m i 1 0 (omega arith))))
+    ∙ puts_is d (λ i. 3 * nb + 2 + i) (λ i. 1) (λ i. 3 * nb + (2 + i)) (λ i. 1) f (λ i h. omega arith) (λ i h. refl)

@@ -19,7 +19,6 @@ use Rattle.card_layout.specs.Inode.{kind, size, count, decoded, kind_no}
 use Rattle.card_layout.specs.declared.inode.FileType.{FileType}
 use Rattle.card_layout.specs.declared.inode.FileType.TheVariants as kinds
 use Rattle.card_layout.specs.declared.inode.Head.{Head}
-use Rattle.card_layout.specs.declared.inode.Decoded.TheVariants as decodings
 use Rattle.card_rules.specs.View.{kids, kid, times_named, naming, owns, uses}
 use Rattle.card_rules.specs.Whole.{Reached, down, Inode, Dir, Whole}
 use Rattle.card_rules.specs.Places.{Place, at_inode, at_indirect, at_double, at_second, at_data, held, InUse}
@@ -30,19 +29,18 @@ use Rattle.card_rules.proofs.Tree.{reached_listed}
 use Rattle.check_marks.specs.Inner.{Marks, Clash, HeadFits}
 use Rattle.check_marks.proofs.Heads.{head_of, head_kind, head_size, fits_inode}
 use Rattle.check_names.specs.InnerReading.{Readable}
-use Rattle.check_walk.specs.declared.queue.End.{End}
-use Rattle.check_walk.specs.declared.queue.End.TheVariants.{At, Bad}
 use Rattle.check_walk.specs.Inner.{pos, seen_at, own_at, Space, Ends, Good, kids_by, head_kids, Taken, Same, Met, Unmet, ill, taken, bad_dir, Queue, Lost, past, many, Scanned, Progress}
 use Rattle.check_walk.proofs.Queueing.{pos_le, queue_le}
+use Rattle.std.specs.Prelude.{Option, Some, None}
 
 -- ---- a step's answer, and the sizes after it
 
-module _ (r : End) (A : ℕ → Type 0) (B : Type 0) where
-  pub ends_at : (t : ℕ) → r ≡ At t → Ends r A B → A t
-  ends_at t e h = subst (λ (q : End). Ends q A B) e h
+module _ (r : Option ℕ) (A : ℕ → Type 0) (B : Type 0) where
+  pub ends_at : (t : ℕ) → r ≡ Some t → Ends r A B → A t
+  ends_at t e h = subst (λ (q : Option ℕ). Ends q A B) e h
 
-  pub ends_bad : r ≡ Bad → Ends r A B → B
-  ends_bad e h = subst (λ (q : End). Ends q A B) e h
+  pub ends_bad : r ≡ None → Ends r A B → B
+  ends_bad e h = subst (λ (q : Option ℕ). Ends q A B) e h
 
 pub space_kept : {img s s' : List ℕ} {nb : ℕ} → Space img s nb → length s' ≡ length s → Space img s' nb
 space_kept z e = record { few = z.few; many = z.many; card = z.card; words = e ∙ z.words }
@@ -85,7 +83,7 @@ kids_by_lem img n kinds.File z e q = sym (kids_of_other img n (λ d. omega arith
 kids_by_lem img n kinds.Dir z e q = ap (λ (x : ℕ). x / 260 - 2) q ∙ sym (kids_of_dir img n e)
 kids_by_lem img n kinds.SymLink z e q = sym (kids_of_other img n (λ d. omega arith))
 
-pub head_kids_lem : (img : List ℕ) (n : ℕ) (h : Head) → decoded img n ≡ decodings.Good h → head_kids h ≡ kids img n
+pub head_kids_lem : (img : List ℕ) (n : ℕ) (h : Head) → decoded img n ≡ Some h → head_kids h ≡ kids img n
 head_kids_lem img n h g = kids_by_lem img n h.type_ h.size (head_kind img n h g) (head_size img n h g)
 
 -- the entries of a directory lie within its blocks
@@ -180,7 +178,7 @@ met img s s₁ s₂ nb n t l g a b =
     }
 
 -- n's head was right, and its blocks are taken
-module _ (img s s₁ : List ℕ) (nb n : ℕ) (h : Head) (g : decoded img n ≡ decodings.Good h) (f : HeadFits h × (h.blocks ≤ 1048576))
+module _ (img s s₁ : List ℕ) (nb n : ℕ) (h : Head) (g : decoded img n ≡ Some h) (f : HeadFits h × (h.blocks ≤ 1048576))
     (z : Space img s nb) (a : Taken img s s₁ nb n) where
   pub inode_met : Inode img n
   inode_met = fits_inode img n h g f.0
@@ -208,7 +206,8 @@ pub same_none : (s : List ℕ) (nb t : ℕ) → Same s s nb t
 same_none s nb t = record { long = refl; front = λ i l. refl; back = λ i l. refl }
 
 -- the room for names, from the queue's end to 2 nb, lent and come back as u'
-pub same_mid : (s u' : List ℕ) (nb t : ℕ) → t ≤ 2 * nb → 2 * nb ≤ length s → length u' ≡ length (mid_of t (2 * nb - t) s) → Same s (put_mid t (2 * nb - t) s u') nb t
+pub same_mid : (s u' : List ℕ) (nb t : ℕ) → t ≤ 2 * nb → 2 * nb ≤ length s → length u' ≡ length (mid_of t (2 * nb - t) s)
+    → Same s (put_mid t (2 * nb - t) s u') nb t
 same_mid s u' nb t a b e =
     let out : List ℕ = put_mid t (2 * nb - t) s u' in
     let k : length u' ≡ 2 * nb - t = e ∙ mid_len t (2 * nb) s b in
@@ -333,8 +332,8 @@ module _ (img s : List ℕ) (nb h t n : ℕ) (p : Progress img s nb h t) (words 
         go (no d) = omega (arith, named, w.tree.file_links m r d, num_lt 2 img (4096 * m + 6) bt)
 
   -- what the noting of n's children, once n is met, says of the card
-  pub entered : (s₁ s₂ : List ℕ) (r : End) → Bytes img → Met img s s₁ nb n t
+  pub entered : (s₁ s₂ : List ℕ) (r : Option ℕ) → Bytes img → Met img s s₁ nb n t
       → Ends r (λ t'. Scanned img s₁ s₂ nb n t t') (Lost img s₁ nb n)
       → Ends r (λ t'. Progress img s₂ nb (h + 1) t') (nb ≡ blocks img → Whole img → ⊥)
-  entered s₁ s₂ (At t') bt a b = progress s₁ s₂ t' a b
-  entered s₁ s₂ Bad bt a b = λ enb w. lost enb w s₁ bt a b
+  entered s₁ s₂ (Some t') bt a b = progress s₁ s₂ t' a b
+  entered s₁ s₂ None bt a b = λ enb w. lost enb w s₁ bt a b

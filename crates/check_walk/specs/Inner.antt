@@ -1,6 +1,6 @@
 -- Inner: the steps of the check. Scratch of nb blocks, 4 nb words: from 0 the queue of the inodes met; then room for names, which takes the queue's free end
 -- too; from 2 nb how often each block was named (one more for the root); from 3 nb how often each block is in use so far.
-use Rattle.std.specs.Prelude.{ℕ, zero, suc, ◌+◌, ◌-◌, ◌*◌, ◌/◌, ◌≤◌, ◌<◌, ◌≡◌, Bool, List, length, get_or, take, drop, set}
+use Rattle.std.specs.Prelude.{ℕ, zero, suc, ◌+◌, ◌-◌, ◌*◌, ◌/◌, ◌≤◌, ◌<◌, ◌≡◌, Bool, List, length, get_or, take, drop, set, Option, Some, None, Result, Ok, Err}
 use Rattle.words.specs.Inner.{When}
 use Rattle.words.specs.Sums.{δ, sum_to, cnt}
 use Rattle.card_layout.specs.Sizes.{fewest, most, block_size, entry_size, map_bits}
@@ -14,14 +14,9 @@ use Rattle.card_rules.specs.View.{entry, kids, kid, times_named, owns, naming, u
 use Rattle.card_rules.specs.Whole.{Sized, Reached, Inode, Dir, Whole}
 use Rattle.check_marks.specs.Inner.{Clash}
 use Rattle.check_names.specs.InnerReading.{Readable}
-use Rattle.check_walk.specs.declared.queue.End.{End}
-use Rattle.check_walk.specs.declared.queue.End.TheVariants.{At, Bad}
-use Rattle.check_walk.specs.declared.judge.Kin.{Kin}
-use Rattle.check_walk.specs.declared.judge.Kin.TheVariants.{Subs, Stray}
-use Rattle.check_walk.specs.declared.judge.Verdict.{Verdict}
-use Rattle.check_walk.specs.declared.judge.Verdict.TheVariants.{Yes, No, Unknown}
 use Rattle.card_layout.specs.declared.inode.FileType.TheVariants as kinds
-use Rattle.card_layout.specs.declared.inode.Decoded.TheVariants as heads
+use Rattle.refusals.specs.declared.Refusal.TheVariants.{Damaged, NoInode}
+use Rattle.refusals.specs.declared.Refusal.{Refusal}
 
 abbrev pub pos : ℕ → ℕ
 pos zero = 0
@@ -40,10 +35,10 @@ pub record Space (img s : List ℕ) (nb : ℕ) : Type 0 where
   pub card : block_size * nb ≤ length img
   pub words : length s ≡ 4 * nb
 
--- what a step answers: where the queue ends now, or that the card is not whole
-abbrev pub Ends : End → (ℕ → Type 0) → Type 0 → Type 0
-Ends (At t) A B = A t
-Ends Bad A B = B
+-- what a step answers: a number of which A holds, as where the queue ends now, or that the card is not whole, as B says
+abbrev pub Ends : Option ℕ → (ℕ → Type 0) → Type 0 → Type 0
+Ends (Some t) A B = A t
+Ends None A B = B
 
 -- ---- one inode
 
@@ -79,7 +74,7 @@ DirRule img n = kind img n ≡ 2 → Dir img n
 
 -- what testing it asks: inode n, whose head is h, has passed rule 4, and its blocks are on the card
 abbrev pub DirAsks : List ℕ → List ℕ → ℕ → ℕ → Head → ℕ → Type 0
-DirAsks img s nb n h t = Space img s nb × (t ≤ nb) × (decoded img n ≡ heads.Good h) × Inode img n × Readable img n
+DirAsks img s nb n h t = Space img s nb × (t ≤ nb) × (decoded img n ≡ Some h) × Inode img n × Readable img n
 
 -- the scratch but for the room for names: the queue of t, and all from 2 nb on
 pub record Same (s s' : List ℕ) (nb t : ℕ) : Type 0 where
@@ -141,7 +136,7 @@ pub record Scanned (img s s' : List ℕ) (nb n t t' : ℕ) : Type 0 where
   pub kids_below : (j : ℕ) → j < kids img n → kid img n j < nb
 
 -- what it answers
-abbrev pub Scans : End → List ℕ → List ℕ → List ℕ → ℕ → ℕ → ℕ → Type 0
+abbrev pub Scans : Option ℕ → List ℕ → List ℕ → List ℕ → ℕ → ℕ → ℕ → Type 0
 Scans r img s s' nb n t = Ends r (λ t'. Scanned img s s' nb n t t') (Lost img s nb n)
 
 -- the first h inodes of the queue are done, and t are in it
@@ -156,10 +151,10 @@ pub record Progress (img s : List ℕ) (nb h t : ℕ) : Type 0 where
 
 -- inode n, whose head is d, is the next of the queue
 abbrev pub Next : List ℕ → List ℕ → ℕ → ℕ → Head → ℕ → ℕ → Type 0
-Next img s nb n d h t = Space img s nb × (h < t) × (n ≡ get_or s h 0) × (decoded img n ≡ heads.Good d) × Progress img s nb h t
+Next img s nb n d h t = Space img s nb × (h < t) × (n ≡ get_or s h 0) × (decoded img n ≡ Some d) × Progress img s nb h t
 
 -- what a step from inode h of the queue answers: one more is done, or the card is not whole
-abbrev pub Advances : End → List ℕ → List ℕ → ℕ → ℕ → Type 0
+abbrev pub Advances : Option ℕ → List ℕ → List ℕ → ℕ → ℕ → Type 0
 Advances r img s' nb h = Ends r (λ t'. Progress img s' nb (h + 1) t') (nb ≡ blocks img → Whole img → ⊥)
 
 -- ---- after the walk
@@ -176,11 +171,6 @@ pub record Ups (img : List ℕ) (n : ℕ) : Type 0 where
 pub record Family (img : List ℕ) (n : ℕ) : Type 0 where
   pub self : Good img n
   pub child : (j : ℕ) → j < kids img n → Good img (kid img n j)
-
--- what family answers: the number of subdirectories, or that one has another parent
-abbrev pub Kinds : Kin → (ℕ → Type 0) → Type 0 → Type 0
-Kinds (Subs c) A B = A c
-Kinds Stray A B = B
 
 pub record Kept (img : List ℕ) (n c : ℕ) : Type 0 where
   pub subs : c ≡ subs img n
@@ -218,7 +208,7 @@ pub record Seen (img s : List ℕ) (nb : ℕ) : Type 0 where
   pub no : (m : ℕ) → Reached img m → (m < nb) × (0 < seen_at s nb m)
 
 -- what judging a card of right size says of it and of two numbers
-abbrev pub Judged : Verdict → List ℕ → ℕ → ℕ → Type 0
-Judged Yes img a b = Whole img × Reached img a × Reached img b
-Judged No img a b = Whole img → ⊥
-Judged Unknown img a b = Whole img × (Reached img a → Reached img b → ⊥)
+pub data Judged (r : Result Unit Refusal) (img : List ℕ) (a b : ℕ) : Type 0 where
+  whole : r ≡ Ok tt → Whole img → Reached img a → Reached img b → Judged r img a b
+  damaged : r ≡ Err Damaged → (Whole img → ⊥) → Judged r img a b
+  no_inode : r ≡ Err NoInode → Whole img → (Reached img a → Reached img b → ⊥) → Judged r img a b

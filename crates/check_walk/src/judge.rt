@@ -1,4 +1,4 @@
-// What is judged after the walk: links and parents, the map, the unused count.
+// What is judged after the walk: links and parents, the map, the unused count. Image and block count: see visit.
 ghost use Rattle.std.specs.Prelude.{◌≡◌, ℕ, ◌+◌, ◌-◌, ◌*◌, ◌/◌, ◌≤◌, ◌<◌, eqb, length, get_or};
 ghost use Rattle.words.specs.Inner.{When, Tells};
 ghost use Rattle.card_layout.specs.Sizes.{fewest, most, block_size, map_bits};
@@ -7,80 +7,56 @@ ghost use Rattle.card_layout.specs.Inode.{kind, decoded};
 ghost use Rattle.card_map.specs.Bits.{map_bit};
 ghost use Rattle.card_rules.specs.View.{kids};
 ghost use Rattle.card_rules.specs.Whole.{Sized, Whole};
-ghost use Rattle.check_walk.specs.Inner.{seen_at, Space, Family, Ups, Kinds, Kept, Tally, Tallies, Bits, Past, Zero, started, Walked, Seen};
-ghost use Rattle.check_walk.specs.Inner.{Judged};
+ghost use Rattle.check_walk.specs.Inner.{seen_at, Space, Family, Ups, Ends, Kept, Tally, Tallies, Bits, Past, Zero, started, Walked, Seen, Judged};
 
-use crate::queue::End;
 use crate::{map, visit};
-use card_layout::inode::{Decoded, FileType, Head};
+use card_layout::inode::{FileType, Head};
 use card_layout::{BlockId, INodeId, inode};
 use check_names::loading;
-
-// How many children of a directory are directories, or that one of those has another parent.
-#[derive(Clone, Copy)]
-pub enum Kin {
-    Subs(usize),
-    Stray,
-}
-
-// Whether a card is whole, and has the inodes that were asked for.
-#[derive(Clone, Copy)]
-pub enum Verdict {
-    Yes,
-    No,
-    Unknown,
-}
+use refusals::Refusal;
+use words::Number;
 
 // Whether inode n is a directory, by its record.
 fn is_dir(image: &[u8], n: INodeId) -> bool
     requires { block_size * n.0 + 80 ≤ length image.now }
     ensures { result ≡ eqb (kind image.now n.0) 2 }
 {
-    let Decoded::Good(h) = inode::decode(image, n) else {
-        return false;
-    };
-    let kind = h.type_;
-    match kind {
-        FileType::Dir => true,
-        FileType::File => false,
-        FileType::SymLink => false,
-    }
+    matches!(inode::decode(image, n), Some(h) if h.type_ == FileType::Dir)
 }
 
-// How many of the e children of directory n are directories, or that one of these has another parent.
-fn family(image: &[u8], n: INodeId, e: usize) -> Kin
+// How many of the e children of directory n are directories: none if one of these has another parent. Counted by hand,
+// as the place that is read from goes along.
+fn family(image: &[u8], n: INodeId, e: usize) -> Option<usize>
     requires { (e ≡ kids image.now n.0) × (e < 16777216) × Family image.now n.0 }
-    ensures { Kinds result (Kept image.now n.0) (Ups image.now n.0 → ⊥) }
+    ensures { Ends result (Kept image.now n.0) (Ups image.now n.0 → ⊥) }
 {
     let mut c = 0;
     let mut p = loading::nowhere(n);
-    let mut j = 0;
-    while j < e {
+    for j in 0..e {
         p = loading::entry_after(image, n, p, 2 + j);
         let m = p.number;
         if is_dir(image, m) {
             let up = loading::entry_number(image, m, 1);
-            if up.0 != n.0 {
-                return Kin::Stray;
+            if up != n {
+                return None;
             }
             c += 1;
         }
-        j += 1;
     }
-    Kin::Subs(c)
+    Some(c)
 }
 
 // Whether the links of directory n, whose head is h and which was named v times, are right.
 fn dir_links(image: &[u8], n: INodeId, h: Head, v: u32) -> bool
-    requires { (decoded image.now n.0 ≡ Decoded.Good h) × (kind image.now n.0 ≡ 2) × Family image.now n.0 }
+    requires { (decoded image.now n.0 ≡ Some h) × (kind image.now n.0 ≡ 2) × Family image.now n.0 }
     ensures { Tells result (Tally image.now n.0 v) }
 {
     if v != 1 {
         return false;
     }
     match family(image, n, visit::kid_count(h)) {
-        Kin::Subs(c) => h.nlinks as usize == 2 + c,
-        Kin::Stray => false,
+        Some(c) => h.nlinks as usize == 2 + c,
+        None => false,
     }
 }
 
@@ -90,15 +66,9 @@ fn links_ok(image: &[u8], n: INodeId, v: u32) -> bool
     ensures { Tells result (Tally image.now n.0 v) }
 {
     match inode::decode(image, n) {
-        Decoded::Good(h) => {
-            let kind = h.type_;
-            match kind {
-                FileType::Dir => dir_links(image, n, h, v),
-                FileType::File => h.nlinks as u32 == v,
-                FileType::SymLink => h.nlinks as u32 == v,
-            }
-        }
-        Decoded::BadKind => false,
+        Some(h) if h.type_ == FileType::Dir => dir_links(image, n, h, v),
+        Some(h) => u32::from(h.nlinks) == v,
+        None => false,
     }
 }
 
@@ -107,14 +77,12 @@ fn tally(image: &[u8], s: &[u32], nb: usize, t: usize) -> bool
     requires { Space image.now s.now nb × (t ≤ nb) × ((i : ℕ) → i < t → (get_or s.now i 0 < nb) × Family image.now (get_or s.now i 0)) }
     ensures { Tells result (Tallies image.now s.now nb t) }
 {
-    let mut i = 0;
-    while i < t {
+    for i in 0..t {
         let n = s[i];
         let v = s[2 * nb + n as usize];
         if !links_ok(image, INodeId(n), v) {
             return false;
         }
-        i += 1;
     }
     true
 }
@@ -124,12 +92,10 @@ fn bits_clear(image: &[u8], nb: u32, e: u32) -> bool
     requires { (8192 + (e + 7) / 8 ≤ length image.now) × (e ≤ 1073741824) }
     ensures { Tells result ((b : ℕ) → nb ≤ b → b < e → map_bit image.now b ≡ 0) }
 {
-    let mut b = nb;
-    while b < e {
+    for b in nb..e {
         if card_map::bit(image, BlockId(b)) != 0 {
             return false;
         }
-        b += 1;
     }
     true
 }
@@ -139,12 +105,10 @@ fn groups_clear(image: &[u8], i: usize, e: usize) -> bool
     requires { (8192 + 8 * e ≤ length image.now) × (e ≤ 16777216) }
     ensures { Tells result ((b : ℕ) → 64 * i ≤ b → b < 64 * e → map_bit image.now b ≡ 0) }
 {
-    let mut j = i;
-    while j < e {
-        if words::get64(image, 8192 + 8 * j) != 0 {
+    for j in i..e {
+        if u64::get(image, 8192 + 8 * j) != 0 {
             return false;
         }
-        j += 1;
     }
     true
 }
@@ -154,14 +118,8 @@ fn past_ok(image: &[u8], nb: usize, f: usize) -> bool
     requires { (nb ≤ map_bits * f) × (f ≤ 32) × (8192 + block_size * f ≤ length image.now) }
     ensures { Tells result (Past image.now nb f) }
 {
-    let g = (nb + 63) / 64;
-    if !bits_clear(image, nb as u32, (64 * g) as u32) {
-        return false;
-    }
-    if !groups_clear(image, g, 512 * f) {
-        return false;
-    }
-    true
+    let g = nb.div_ceil(64);
+    bits_clear(image, nb as u32, (64 * g) as u32) && groups_clear(image, g, 512 * f)
 }
 
 // Whether each block is in use once or free, and the unused count is that of the bits.
@@ -170,13 +128,9 @@ fn bits(image: &[u8], s: &[u32], nb: usize) -> bool
     ensures { Tells result (Bits image.now s.now nb) }
 {
     let n = nb / 8;
-    if !map::bytes_agree(image, s, nb, n) {
-        return false;
-    }
-    if !map::rest_agrees(image, s, nb, 8 * n) {
-        return false;
-    }
-    map::free_count(image, nb) == words::get32(image, 8)
+    map::bytes_agree(image, s, nb, n)
+        && map::rest_agrees(image, s, nb, 8 * n)
+        && map::free_count(image, nb) == u32::get(image, 8)
 }
 
 // The superblock and the f blocks of the map are in use, and the root alone is in the queue.
@@ -186,11 +140,7 @@ fn start(s: &mut [u32], nb: usize, f: usize)
 {
     let a = 3 * nb;
     s[a] = 1;
-    let mut i = 0;
-    while i < f {
-        s[a + (2 + i)] = 1;
-        i += 1;
-    }
+    s[a + 2..a + 2 + f].fill(1);
     s[0] = 1;
     s[2 * nb + 1] = 1;
 }
@@ -200,20 +150,10 @@ fn rest(image: &[u8], s: &[u32], nb: usize, f: usize, t: usize) -> bool
     requires { Walked image.now s.now nb f t }
     ensures { When result (Whole image.now × Seen image.now s.now nb) (Whole image.now → ⊥) }
 {
-    let up = loading::entry_number(image, INodeId(1), 1);
-    if up.0 != 1 {
-        return false;
-    }
-    if !past_ok(image, nb, f) {
-        return false;
-    }
-    if !bits(image, s, nb) {
-        return false;
-    }
-    if !tally(image, s, nb, t) {
-        return false;
-    }
-    true
+    loading::entry_number(image, INodeId(1), 1) == INodeId(1)
+        && past_ok(image, nb, f)
+        && bits(image, s, nb)
+        && tally(image, s, nb, t)
 }
 
 // Whether a card of nb blocks is whole. The scratch, all zero before, tells the inodes of a whole card.
@@ -225,13 +165,10 @@ fn whole(image: &[u8], s: &mut [u32], nb: usize, f: usize) -> bool
         return false;
     }
     start(s, nb, f);
-    let End::At(t) = visit::walk(image, s, nb) else {
-        return false;
-    };
-    if !rest(image, s, nb, f, t) {
-        return false;
+    match visit::walk(image, s, nb) {
+        Some(t) => rest(image, s, nb, f, t),
+        None => false,
     }
-    true
 }
 
 // Whether n is an inode of the card, by the counts that the walk left.
@@ -240,28 +177,26 @@ fn known(s: &[u32], nb: usize, n: INodeId) -> bool
     ensures { When result ((n.0 < nb) × (0 < seen_at s.now nb n.0)) ((n.0 < nb → 0 < seen_at s.now nb n.0 → ⊥)) }
 {
     let m = n.0 as usize;
-    if nb <= m {
-        return false;
-    }
-    if s[2 * nb + m] == 0 {
-        return false;
-    }
-    true
+    m < nb && s[2 * nb + m] != 0
 }
 
 // Judges a card of nb blocks, f of them of map, and whether a and b are inodes of it. The scratch is all zero.
-pub fn judge(image: &[u8], s: &mut [u32], nb: usize, f: usize, a: INodeId, b: INodeId) -> Verdict
+pub fn judge(
+    image: &[u8],
+    s: &mut [u32],
+    nb: usize,
+    f: usize,
+    a: INodeId,
+    b: INodeId,
+) -> Result<(), Refusal>
     requires { Space image.now s.old nb × (nb ≡ blocks image.now) × (f ≡ maps image.now) × Sized image.now × Zero s.old }
     ensures { Judged result image.now a.0 b.0 }
 {
     if !whole(image, s, nb, f) {
-        return Verdict::No;
+        return Err(Refusal::Damaged);
     }
-    if !known(s, nb, a) {
-        return Verdict::Unknown;
+    if !known(s, nb, a) || !known(s, nb, b) {
+        return Err(Refusal::NoInode);
     }
-    if !known(s, nb, b) {
-        return Verdict::Unknown;
-    }
-    Verdict::Yes
+    Ok(())
 }

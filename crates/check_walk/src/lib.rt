@@ -10,10 +10,10 @@ ghost use Rattle.card_rules.specs.Whole.{Sized};
 ghost use Rattle.check_walk.specs.Opening.{Opening};
 ghost use Rattle.check_walk.specs.Inner.{Judged};
 
-use crate::judge::Verdict;
 use card_layout::superblock::SuperBlock;
 use card_layout::{BLKSIZE, INodeId, MAP_BITS, MAX_BLOCKS, MIN_BLOCKS, SFS_MAGIC, superblock};
 use check_names::directory;
+use refusals::Refusal;
 
 pub mod judge;
 pub mod map;
@@ -21,44 +21,33 @@ pub mod queue;
 pub mod visit;
 
 // A card's block count and unused count.
-#[derive(Clone, Copy)]
+#[derive(Clone, Copy, Debug, PartialEq, Eq)]
 pub struct Counts {
     pub blocks: u32,
     pub unused: u32,
 }
 
-// The answer to opening a card: its counts, or one of RULES' refusals 1 to 4.
-#[derive(Clone, Copy)]
-pub enum Opened {
-    Open(Counts),
-    ScratchShort,
-    WrongFs,
-    Damaged,
-    NoInode,
-}
-
 // Whether the sizes of a superblock with the right magic are right for the slice: rule 1.
+#[tactic(auto, unfolding(card_layout::specs::Sizes::maps_for))]
 fn sized(image: &[u8], s: SuperBlock) -> bool
     requires { (s ≡ super_at image.now) × (s.magic ≡ right_magic) }
     ensures { Tells result (Sized image.now) }
 {
-    if s.blocks < MIN_BLOCKS {
-        return false;
-    }
-    if MAX_BLOCKS < s.blocks {
-        return false;
-    }
-    if s.freemap_blocks != (s.blocks + 32767) / MAP_BITS {
-        return false;
-    }
-    if image.len() < BLKSIZE * s.blocks as usize {
-        return false;
-    }
-    true
+    MIN_BLOCKS <= s.blocks
+        && s.blocks <= MAX_BLOCKS
+        && s.freemap_blocks == s.blocks.div_ceil(MAP_BITS)
+        && BLKSIZE * s.blocks as usize <= image.len()
 }
 
 // Judges between two clearings of the first 4 words a block.
-fn cleared(image: &[u8], s: &mut [u32], nb: usize, f: usize, a: INodeId, b: INodeId) -> Verdict
+fn cleared(
+    image: &[u8],
+    s: &mut [u32],
+    nb: usize,
+    f: usize,
+    a: INodeId,
+    b: INodeId,
+) -> Result<(), Refusal>
     requires { (nb ≡ blocks image.now) × (f ≡ maps image.now) × Sized image.now × (4 * nb ≤ length s.old) }
     ensures { (s.new ≡ zeroed s.old 0 (4 * nb)) × Judged result image.now a.0 b.0 }
 {
@@ -69,37 +58,33 @@ fn cleared(image: &[u8], s: &mut [u32], nb: usize, f: usize, a: INodeId, b: INod
     v
 }
 
-// Opens a card for a call on inodes a and b.
-pub fn open_card(image: &[u8], s: &mut [u32], a: INodeId, b: INodeId) -> Opened
+// Opens a card for a call on inodes a and b: its counts, or one of RULES' refusals 1 to 4.
+pub fn open_card(image: &[u8], s: &mut [u32], a: INodeId, b: INodeId) -> Result<Counts, Refusal>
     ensures { Opening image.now s.old s.new a.0 b.0 result }
 {
     if image.len() < BLKSIZE {
-        return Opened::Damaged;
+        return Err(Refusal::Damaged);
     }
     let h = superblock::decode(image);
     if h.magic != SFS_MAGIC {
-        return Opened::WrongFs;
+        return Err(Refusal::WrongFs);
     }
     if !sized(image, h) {
-        return Opened::Damaged;
+        return Err(Refusal::Damaged);
     }
     let nb = h.blocks as usize;
     if s.len() < 4 * nb {
-        return Opened::ScratchShort;
+        return Err(Refusal::ScratchShort);
     }
-    let v = cleared(image, s, nb, h.freemap_blocks as usize, a, b);
-    match v {
-        Verdict::Yes => Opened::Open(Counts {
-            blocks: h.blocks,
-            unused: h.unused_blocks,
-        }),
-        Verdict::No => Opened::Damaged,
-        Verdict::Unknown => Opened::NoInode,
-    }
+    cleared(image, s, nb, h.freemap_blocks as usize, a, b)?;
+    Ok(Counts {
+        blocks: h.blocks,
+        unused: h.unused_blocks,
+    })
 }
 
 // Checks a card: opening it for the root, which is an inode of every whole card.
-pub fn check(image: &[u8], s: &mut [u32]) -> Opened
+pub fn check(image: &[u8], s: &mut [u32]) -> Result<Counts, Refusal>
     ensures { Opening image.now s.old s.new 1 1 result }
 {
     open_card(image, s, INodeId(1), INodeId(1))

@@ -1,4 +1,4 @@
-// The map beside the marks: each block is in use once or free. A map byte is read once, for its eight blocks.
+// The map beside the marks: each block is in use once or free. A map byte is read once, for its eight blocks. Image and block count: see visit.
 ghost use Rattle.std.specs.Prelude.{◌≡◌, ℕ, ◌+◌, ◌*◌, ◌/◌, ◌%◌, ◌^◌, ◌≤◌, ◌<◌, length, get_or};
 ghost use Rattle.words.specs.Inner.{Tells};
 ghost use Rattle.card_layout.specs.Sizes.{most};
@@ -6,20 +6,14 @@ ghost use Rattle.card_map.specs.Bits.{map_bit, free_bits};
 ghost use Rattle.check_walk.specs.Inner.{own_at, Space};
 
 use card_layout::BlockId;
+use words::Number;
 
 // Whether the eight marks from `at` on are v.
 fn eight_are(s: &[u32], at: usize, v: u32) -> bool
     requires { at + 8 ≤ length s.now }
     ensures { Tells result ((k : ℕ) → k < 8 → get_or s.now (at + k) 0 ≡ v) }
 {
-    let mut k = 0;
-    while k < 8 {
-        if s[at + k] != v {
-            return false;
-        }
-        k += 1;
-    }
-    true
+    s[at..at + 8].iter().all(|&m| m == v)
 }
 
 // Whether each of the eight blocks of map byte x, whose marks are those from `at` on, is in use once or free. In most bytes all are the one or the other.
@@ -33,13 +27,11 @@ fn eight_agree(s: &[u32], at: usize, x: u8) -> bool
     if x == 255 {
         return eight_are(s, at, 0);
     }
-    let mut k: usize = 0;
-    while k < 8 {
+    for k in 0..8 {
         let f = (x >> k) % 2;
         if s[at + k] != 1 - f as u32 {
             return false;
         }
-        k += 1;
     }
     true
 }
@@ -49,12 +41,10 @@ pub fn bytes_agree(image: &[u8], s: &[u32], nb: usize, n: usize) -> bool
     requires { Space image.now s.now nb × (8 * n ≤ nb) }
     ensures { Tells result ((b : ℕ) → b < 8 * n → own_at s.now nb b + map_bit image.now b ≡ 1) }
 {
-    let mut i = 0;
-    while i < n {
+    for i in 0..n {
         if !eight_agree(s, 3 * nb + 8 * i, image[8192 + i]) {
             return false;
         }
-        i += 1;
     }
     true
 }
@@ -64,13 +54,11 @@ pub fn rest_agrees(image: &[u8], s: &[u32], nb: usize, from: usize) -> bool
     requires { Space image.now s.now nb }
     ensures { Tells result ((b : ℕ) → from ≤ b → b < nb → own_at s.now nb b + map_bit image.now b ≡ 1) }
 {
-    let mut b = from;
-    while b < nb {
+    for b in from..nb {
         let f = card_map::bit(image, BlockId(b as u32));
         if s[3 * nb + b] != 1 - f as u32 {
             return false;
         }
-        b += 1;
     }
     true
 }
@@ -80,11 +68,9 @@ fn free_in_groups(image: &[u8], n: usize) -> u32
     requires { (8192 + 8 * n ≤ length image.now) × (64 * n ≤ most) }
     ensures { result ≡ free_bits image.now (64 * n) }
 {
-    let mut c: u32 = 0;
-    let mut i = 0;
-    while i < n {
-        c += u64::count_ones(words::get64(image, 8192 + 8 * i));
-        i += 1;
+    let mut c = 0;
+    for i in 0..n {
+        c += u64::get(image, 8192 + 8 * i).count_ones();
     }
     c
 }
@@ -96,10 +82,8 @@ pub fn free_count(image: &[u8], nb: usize) -> u32
 {
     let n = nb / 64;
     let mut c = free_in_groups(image, n);
-    let mut b = 64 * n;
-    while b < nb {
+    for b in 64 * n..nb {
         c += card_map::bit(image, BlockId(b as u32)) as u32;
-        b += 1;
     }
     c
 }

@@ -9,13 +9,6 @@ use check_names::loading;
 // As wide as a count of the walk.
 const MANY: u32 = MAX_NLINKS as u32;
 
-// Where the queue ends after a step, or that the card is not whole.
-#[derive(Clone, Copy)]
-pub enum End {
-    At(usize),
-    Bad,
-}
-
 // Notes that an entry names m, which was named v times.
 fn note(s: &mut [u32], nb: usize, m: INodeId, v: u32, t: usize) -> usize
     requires { (nb ≤ most) × (length s.old ≡ 4 * nb) × (m.0 < nb) × (v ≡ seen_at s.old nb m.0) × (v ≤ full_links) × (v ≡ 0 → t < nb) }
@@ -31,28 +24,26 @@ fn note(s: &mut [u32], nb: usize, m: INodeId, v: u32, t: usize) -> usize
     t
 }
 
-// Notes the e children of directory n. A number that was named 65,536 times, counting the
+// Notes the e children of directory n, and answers where the queue ends then. None: the card is not whole. A number that was named 65,536 times, counting the
 // root once more than its entries, is no inode's of a whole card if it is named again: links have 16 bits.
-pub fn scan(image: &[u8], s: &mut [u32], nb: usize, n: INodeId, e: usize, t: usize) -> End
+pub fn scan(image: &[u8], s: &mut [u32], nb: usize, n: INodeId, e: usize, t: usize) -> Option<usize>
     requires { Scannable image.now s.old nb n.0 e t }
     ensures { Scans result image.now s.old s.new nb n.0 t }
 {
     let mut end = t;
     let mut p = loading::nowhere(n);
-    let mut j = 0;
-    while j < e {
+    for j in 0..e {
         p = loading::entry_after(image, n, p, 2 + j);
         let m = p.number;
         let at = m.0 as usize;
         if nb <= at {
-            return End::Bad;
+            return None;
         }
         let v = s[2 * nb + at];
         if MANY < v {
-            return End::Bad;
+            return None;
         }
         end = note(s, nb, m, v, end);
-        j += 1;
     }
-    End::At(end)
+    Some(end)
 }

@@ -5,6 +5,7 @@ use mathlib.Core.List.{List}
 use Prim.Native.Nat.{ℕ, ◌+◌, ◌-◌, ◌*◌, ◌≤◌, ◌<◌}
 use native.Mathlib.Omega.{arith}
 use native.Mathlib.Decide.{ℕ_discrete}
+use lib.ListN.{length}
 use Rattle.words.specs.Sums.{cnt}
 use Rattle.card_layout.specs.Sizes.{blocks_for}
 use Rattle.card_layout.specs.Super.{blocks}
@@ -66,6 +67,9 @@ module _ (img : List ℕ) (w : Whole img) (n : ℕ) (r : Reached img n) where
         second_in = λ j l. omega (arith, z.long, place_below (at_second j) l);
         data_in = λ i l. omega (arith, z.long, place_below (at_data i) l);
       }
+
+  pub here_ready : 4096 * n + 80 ≤ length img
+  here_ready = omega (arith, readable_ready.here)
 
   -- its entries, those of a directory or not
   pub entries_inside : 260 * entries img n ≤ 4096 * count img n

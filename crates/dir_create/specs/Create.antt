@@ -1,10 +1,11 @@
 -- Create (RULES): "takes the inode block, for a directory its data block, then appends in the parent, and answers the number". Its tests, in order:
 -- 6, 8, 9, 12, 13, 14.
-use Rattle.std.specs.Prelude.{ℕ, ◌+◌, Bool, false, List, eqb, ltb}
+use Rattle.std.specs.Prelude.{ℕ, ◌+◌, Bool, false, List, eqb, ltb, Result, Err}
 use Rattle.card_layout.specs.Sizes.{full_links}
 use Rattle.words.specs.Words.{pick}
 use Rattle.card_layout.specs.Inode.{decoded, encoded, new_inode, with_links}
 use Rattle.card_layout.specs.Entry.{entry_of}
+use Rattle.card_layout.specs.declared.INodeId.{INodeId}
 use Rattle.card_layout.specs.declared.inode.FileType.{FileType}
 use Rattle.card_layout.specs.declared.inode.FileType.TheVariants.{File, Dir, SymLink}
 use Rattle.card_layout.specs.declared.inode.Head.{Head}
@@ -15,9 +16,10 @@ use Rattle.file_requests.specs.Resizing.{fitted}
 use Rattle.file_requests.specs.Requests.{record_with}
 use Rattle.dir_entries.specs.Entries.{entry_put, appended}
 use Rattle.dir_entries.specs.Names.{dot, dots}
-use Rattle.dir_answers.specs.Answers.{the_inode, if_done, of_head, in_dir, new_name, entry_needs, room_for}
-use Rattle.dir_answers.specs.declared.Acted.{Acted}
-use Rattle.dir_answers.specs.declared.Acted.TheVariants.{InvalidParam, TooManyLinks}
+use Rattle.dir_answers.specs.Answers.{the_inode, of_head, in_dir, new_name, entry_needs, room_for}
+use Rattle.refusals.specs.Refusals.{if_done}
+use Rattle.refusals.specs.declared.Refusal.TheVariants.{InvalidParam, TooManyLinks}
+use Rattle.refusals.specs.declared.Refusal.{Refusal}
 
 -- the kinds by their numbers; 2 is a directory
 abbrev pub known_kind : ℕ → Bool
@@ -35,15 +37,15 @@ abbrev pub create_takes : Head → ℕ → ℕ
 create_takes h k = 1 + pick (eqb k 2) 1 0 + entry_needs h
 
 -- 13 and 14
-unfoldable pub create_room : ℕ → List ℕ → Head → ℕ → Acted
+unfoldable pub create_room : ℕ → List ℕ → Head → ℕ → Result INodeId Refusal
 create_room nb img h k =
-    pick (eqb k 2) (pick (eqb h.nlinks full_links) TooManyLinks room) room
+    pick (eqb k 2) (pick (eqb h.nlinks full_links) (Err TooManyLinks) room) room
   where
-    room : Acted
+    room : Result INodeId Refusal
     room = room_for img (create_takes h k) (the_inode (fresh_inode nb img))
 
-unfoldable pub create_answer : ℕ → List ℕ → ℕ → List ℕ → ℕ → Acted
-create_answer nb img p x k = in_dir img p (λ h. new_name img p x (pick (known_kind k) (create_room nb img h k) InvalidParam))
+unfoldable pub create_answer : ℕ → List ℕ → ℕ → List ℕ → ℕ → Result INodeId Refusal
+create_answer nb img p x k = in_dir img p (λ h. new_name img p x (pick (known_kind k) (create_room nb img h k) (Err InvalidParam)))
 
 -- a file or a symbolic link: one link, in a directory p with record d
 unfoldable pub made_file : ℕ → ℕ → DiskINode → List ℕ → FileType → List ℕ → List ℕ

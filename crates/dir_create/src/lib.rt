@@ -1,20 +1,16 @@
-// Create: RULES' tests, in its order, and then the act.
+// Create: RULES' tests, in its order, and then the act. Card and block count: see dir_entries::editing.
 #![tactic(auto)]
 
-ghost use Rattle.std.specs.Prelude.{◌≡◌, ◌<◌, false, eqb};
+ghost use Rattle.std.specs.Prelude.{◌≡◌, ◌<◌};
 ghost use Rattle.card_layout.specs.Sizes.{full_links};
-ghost use Rattle.words.specs.Words.{pick};
 ghost use Rattle.card_layout.specs.Super.{blocks};
-ghost use Rattle.card_layout.specs.Inode.{encoded};
+ghost use Rattle.card_layout.specs.Inode.{kind_no, encoded};
 ghost use Rattle.card_map.specs.Free.{taken};
 ghost use Rattle.card_rules.specs.Whole.{Reached, Whole};
 ghost use Rattle.file_blocks.specs.Inner.{Sizes};
 ghost use Rattle.file_requests.specs.Resizing.{fitted};
 ghost use Rattle.dir_entries.specs.Inner.{CanAppend};
-ghost use Rattle.dir_answers.specs.Inner.{DirHead};
 ghost use Rattle.dir_create.specs.Create.{
-  known_kind,
-  file_kind,
   fresh_inode,
   create_takes,
   create_room,
@@ -27,107 +23,65 @@ ghost use Rattle.dir_create.specs.Create.{
 };
 ghost use Rattle.dir_create.specs.Inner.{NoneBelow, MakeReady, Creates};
 
-use card_layout::inode::{Decoded, DiskINode, FileType, Head};
+use card_layout::inode::{DiskINode, FileType, Head};
 use card_layout::{BlockId, INodeId, MAX_NLINKS, entry, inode};
-use card_map::FreeBlock;
-use dir_answers::{Acted, judging};
+use dir_answers::judging;
 use dir_entries::editing;
+use dir_entries::editing::Loaded;
 use file_grow;
-use file_requests::{requests, resizing};
+use file_requests::resizing;
+use refusals::Refusal;
 
-// Whether a kind is 1, 2 or 3.
-fn known_kind(kind: u32) -> bool
-    ensures { result ≡ known_kind kind }
-{
-    if kind == 0 {
-        return false;
-    }
-    kind < 4
-}
-
-// The kind of what is no directory.
-fn file_kind(kind: u32) -> FileType
-    ensures { result ≡ file_kind kind }
-{
-    if kind == 1 {
-        return FileType::File;
-    }
-    FileType::SymLink
-}
-
-// The lowest free block: the number that is answered. Nothing is taken yet.
+// The lowest free block: the number that is answered, 0 where there is none, as `fresh_inode` says. Nothing is taken yet.
+#[tactic(auto, unfolding(file_blocks::specs::Taking::next_free))]
 fn fresh_inode(image: &[u8], nb: u32) -> INodeId
     requires { Sizes image.now nb }
     ensures { result.0 ≡ fresh_inode nb image.now }
 {
     match card_map::find_free(image, BlockId(0), nb) {
-        FreeBlock::At(b) => INodeId(b.0),
-        FreeBlock::Nothing => INodeId(0),
+        Some(b) => INodeId(b.0),
+        None => INodeId(0),
     }
 }
 
 // The inode's block, a directory's data block, and what the entry takes in a parent with head h.
-fn create_takes(h: Head, kind: u32) -> usize
+fn create_takes(h: Head, kind: FileType) -> usize
     requires { CanAppend h }
-    ensures { result ≡ create_takes h kind }
+    ensures { result ≡ create_takes h (kind_no kind) }
 {
     let k = judging::entry_needs(h);
-    if kind == 2 {
-        return 2 + k;
-    }
-    1 + k
-}
-
-// Whether the parent's links would rise past what its record counts.
-fn links_full(h: Head, kind: u32) -> bool
-    ensures { result ≡ pick (eqb kind 2) (eqb h.nlinks full_links) false }
-{
-    if kind == 2 {
-        return h.nlinks == MAX_NLINKS;
-    }
-    false
+    if kind == FileType::Dir { 2 + k } else { 1 + k }
 }
 
 // 13 and 14.
-fn create_room(image: &[u8], nb: u32, h: Head, kind: u32) -> Acted
+#[tactic(auto, unfolding(crate::specs::Create::create_room))]
+fn create_room(image: &[u8], nb: u32, h: Head, kind: FileType) -> Result<INodeId, Refusal>
     requires { Sizes image.now nb × CanAppend h }
-    ensures { result ≡ create_room nb image.now h kind }
+    ensures { result ≡ create_room nb image.now h (kind_no kind) }
 {
-    if links_full(h, kind) {
-        return Acted::TooManyLinks;
+    if kind == FileType::Dir && h.nlinks == MAX_NLINKS {
+        return Err(Refusal::TooManyLinks);
     }
-    let k = create_takes(h, kind);
-    let j = judging::room_for(image, k);
-    let Acted::Done = j else {
-        return j;
-    };
-    Acted::Inode(fresh_inode(image, nb))
+    judging::room_for(image, create_takes(h, kind))?;
+    Ok(fresh_inode(image, nb))
 }
 
-// 8, 9, 12, 13 and 14, in directory p with head h.
-fn judge_in(image: &[u8], nb: u32, p: INodeId, h: Head, x: &[u8], kind: u32) -> Acted
-    requires { Whole image.now × Reached image.now p.0 × (nb ≡ blocks image.now) × DirHead image.now p.0 h }
-    ensures { result ≡ create_answer nb image.now p.0 x.now kind }
-{
-    let j = judging::new_name(image, p, h, x);
-    let Acted::Done = j else {
-        return j;
-    };
-    if !known_kind(kind) {
-        return Acted::InvalidParam;
-    }
-    create_room(image, nb, h, kind)
-}
-
-// What create answers. Nothing changes.
-pub fn judge_create(image: &[u8], nb: u32, p: INodeId, x: &[u8], kind: u32) -> Acted
+// What create answers. Nothing changes. The kind is the caller's number: one that is none is refused after the name.
+#[tactic(auto, unfolding(crate::specs::Create::create_answer))]
+pub fn judge_create(
+    image: &[u8],
+    nb: u32,
+    p: INodeId,
+    x: &[u8],
+    kind: u32,
+) -> Result<INodeId, Refusal>
     requires { Whole image.now × Reached image.now p.0 × (nb ≡ blocks image.now) }
     ensures { result ≡ create_answer nb image.now p.0 x.now kind }
 {
-    match judging::dir_head(image, p) {
-        Decoded::Good(h) => judge_in(image, nb, p, h, x, kind),
-        Decoded::BadKind => Acted::NotDir,
-    }
+    let h = judging::dir_head(image, p)?;
+    judging::new_name(image, p, h, x)?;
+    let kind = FileType::try_from(kind)?;
+    create_room(image, nb, h, kind)
 }
 
 // Takes the lowest free block, whose search goes on where it has been found before.
@@ -139,24 +93,16 @@ fn take_first(image: &mut [u8], nb: u32, from: BlockId) -> INodeId
     INodeId(b.0)
 }
 
-// A file or a symbolic link, in directory p with record d.
-fn make_file(
-    image: &mut [u8],
-    nb: u32,
-    from: BlockId,
-    p: INodeId,
-    d: DiskINode,
-    x: &[u8],
-    t: FileType,
-)
-    requires { MakeReady nb image.old from.0 p.0 d x.now }
-    ensures { image.new ≡ made_file nb p.0 d x.now t image.old }
+// A file or a symbolic link, in directory p.
+fn make_file(image: &mut [u8], nb: u32, from: BlockId, p: Loaded, x: &[u8], t: FileType)
+    requires { MakeReady nb image.old from.0 p.id.0 p.disk x.now }
+    ensures { image.new ≡ made_file nb p.id.0 p.disk x.now t image.old }
 {
     let n = take_first(image, nb, from);
     let f = DiskINode::new(t);
     inode::encode(image, n, f.set_nlinks(1));
     let e = entry::entry_of(n, x);
-    editing::append_direntry(image, nb, p, d, &e);
+    editing::append_direntry(image, nb, p, &e);
 }
 
 // Inode i as a directory of 520 bytes.
@@ -182,41 +128,47 @@ fn make_empty(image: &mut [u8], nb: u32, i: INodeId, p: INodeId)
     editing::write_entry(image, nb, i, 1, &f);
 }
 
-// A directory, in directory p with record d, whose links rise.
-fn make_dir(image: &mut [u8], nb: u32, from: BlockId, p: INodeId, d: DiskINode, x: &[u8])
-    requires { (d.head.nlinks < full_links) × MakeReady nb image.old from.0 p.0 d x.now }
-    ensures { image.new ≡ made_dir nb p.0 d x.now image.old }
+// A directory, in directory p, whose links rise.
+fn make_dir(image: &mut [u8], nb: u32, from: BlockId, p: Loaded, x: &[u8])
+    requires { (p.disk.head.nlinks < full_links) × MakeReady nb image.old from.0 p.id.0 p.disk x.now }
+    ensures { image.new ≡ made_dir nb p.id.0 p.disk x.now image.old }
 {
     let n = take_first(image, nb, from);
-    make_empty(image, nb, n, p);
+    make_empty(image, nb, n, p.id);
     let e = entry::entry_of(n, x);
-    editing::append_direntry(image, nb, p, d.set_nlinks(d.head.nlinks + 1), &e);
+    let l = p.disk.head.nlinks + 1;
+    editing::append_direntry(image, nb, p.with_links(l), &e);
 }
 
 // What create does.
-fn make(image: &mut [u8], nb: u32, from: BlockId, p: INodeId, d: DiskINode, x: &[u8], kind: u32)
-    requires { (kind ≡ 2 → d.head.nlinks < full_links) × MakeReady nb image.old from.0 p.0 d x.now }
-    ensures { image.new ≡ made nb p.0 d x.now kind image.old }
+#[tactic(auto, unfolding(crate::specs::Create::made))]
+fn make(image: &mut [u8], nb: u32, from: BlockId, p: Loaded, x: &[u8], kind: FileType)
+    requires { (kind_no kind ≡ 2 → p.disk.head.nlinks < full_links) × MakeReady nb image.old from.0 p.id.0 p.disk x.now }
+    ensures { image.new ≡ made nb p.id.0 p.disk x.now (kind_no kind) image.old }
 {
-    if kind == 2 {
-        make_dir(image, nb, from, p, d, x);
-        return;
+    match kind {
+        FileType::Dir => make_dir(image, nb, from, p, x),
+        FileType::File | FileType::SymLink => make_file(image, nb, from, p, x, kind),
     }
-    make_file(image, nb, from, p, d, x, file_kind(kind));
 }
 
-pub fn create(image: &mut [u8], nb: u32, p: INodeId, x: &[u8], kind: u32) -> Acted
+#[tactic(auto, unfolding(crate::specs::Create::create_card))]
+pub fn create(
+    image: &mut [u8],
+    nb: u32,
+    p: INodeId,
+    x: &[u8],
+    kind: u32,
+) -> Result<INodeId, Refusal>
     requires { Whole image.old × Reached image.old p.0 × (nb ≡ blocks image.old) }
     ensures { Creates nb image.old image.new p.0 x.now kind result }
 {
-    let r = judge_create(image, nb, p, x, kind);
-    let Acted::Inode(first) = r else {
-        return r;
+    let n = judge_create(image, nb, p, x, kind)?;
+    let kind = FileType::try_from(kind)?;
+    let Some(h) = inode::decode(image, p) else {
+        return Ok(n);
     };
-    let Decoded::Good(h) = inode::decode(image, p) else {
-        return r;
-    };
-    let d = requests::record_with(image, p, h);
-    make(image, nb, BlockId(first.0), p, d, x, kind);
-    r
+    let p = Loaded::read(image, p, h);
+    make(image, nb, BlockId(n.0), p, x, kind);
+    Ok(n)
 }

@@ -7,7 +7,9 @@ use native.Mathlib.Omega.{arith}
 use native.Mathlib.Decide.{ℕ_discrete, dec_lt}
 use borrow.Author.Tests.{eq-eqb, ne_eqb, lt-ltb, le-ltb}
 use lib.Dec.{eqb}
+use lib.Pointwise.{pointwise}
 use lib.ListN.{length, get_or, drop, drop_of_length-le}
+use Rattle.std.specs.Cmp.Lexicographic.{same_text, other_text}
 use Rattle.words.specs.Words.{pick, byte}
 use Rattle.words.proofs.Lists.{rest_cons}
 use Rattle.card_layout.specs.Entry.{Name}
@@ -34,33 +36,13 @@ not_dots x d e = rw (eqs_differ x dot d) (eqs_differ x dots e)
 pub dots_apart : (x : List ℕ) → is_dots x ≡ false → (x ≡ dot → ⊥) × (x ≡ dots → ⊥)
 dots_apart x e = (λ p. false≢true (sym e ∙ is_dot x p), λ p. false≢true (sym e ∙ is_dots_lem x p))
 
--- by length and bytes
-pub dots_one : (x : List ℕ) → length x ≡ 1 → eqb (get_or x 0 0) 46 ≡ is_dots x
-unfolding eqs
-dots_one [] l = absurd (omega arith)
-dots_one (y ∷ z ∷ x) l = absurd (omega arith)
-dots_one (y ∷ []) l = go (ℕ_discrete y 46)
-  where
-    go : Dec (y ≡ 46) → eqb y 46 ≡ is_dots (y ∷ [])
-    go (yes e) = rw (eq-eqb y 46 e)
-    go (no d) = rw (ne_eqb y 46 d)
+-- by two comparisons of text
+pub dots_first : (x : List ℕ) (t : Bool) → t ≡ pointwise eqb x dot → t ≡ true → t ≡ is_dots x
+dots_first x t e y = y ∙ sym (is_dot x (same_text x dot (sym y ∙ e)))
 
-pub dots-length : (x : List ℕ) → (length x ≡ 1 → ⊥) → (length x ≡ 2 → ⊥) → is_dots x ≡ false
-dots-length x d e = not_dots x (λ p. d (ap length p)) (λ p. e (ap length p))
-
-pub dots_other : (x : List ℕ) → (get_or x 0 0 ≡ 46 → ⊥) → is_dots x ≡ false
-dots_other x d = not_dots x (λ p. d (ap (λ (t : List ℕ). get_or t 0 0) p)) (λ p. d (ap (λ (t : List ℕ). get_or t 0 0) p))
-
-pub dots_two : (x : List ℕ) → length x ≡ 2 → get_or x 0 0 ≡ 46 → eqb (get_or x 1 0) 46 ≡ is_dots x
-unfolding eqs
-dots_two [] l e = absurd (omega arith)
-dots_two (y ∷ []) l e = absurd (omega arith)
-dots_two (y ∷ z ∷ t ∷ x) l e = absurd (omega arith)
-dots_two (y ∷ z ∷ []) l e = go (ℕ_discrete z 46)
-  where
-    go : Dec (z ≡ 46) → eqb z 46 ≡ is_dots (y ∷ z ∷ [])
-    go (yes p) = rw (eq-eqb y 46 e, eq-eqb z 46 p)
-    go (no d) = rw (eq-eqb y 46 e, ne_eqb z 46 d)
+pub dots_second : (x : List ℕ) (t u : Bool) → t ≡ pointwise eqb x dot → t ≡ false → u ≡ pointwise eqb x dots → u ≡ is_dots x
+dots_second x t true e n d = sym (is_dots_lem x (same_text x dots d))
+dots_second x t false e n d = sym (not_dots x (other_text x dot (sym n ∙ e)) (other_text x dots d))
 
 -- ---- NULs
 

@@ -8,8 +8,18 @@ use native.Mathlib.Decide.{ℕ_discrete, dec_lt}
 use Rattle.words.specs.Words.{pick}
 use Rattle.card_map.proofs.First.{first_hit, first_least, first_range}
 use Rattle.card_rules.specs.View.{entries, name}
-use Rattle.dir_entries.specs.Entries.{eqs, same_as, where_is}
+use Rattle.dir_entries.specs.Entries.{eqs, same_as, where_is, there}
+use lib.Dec.{ltb}
+use borrow.Author.Tests.{lt-ltb, le-ltb}
+use Rattle.file_blocks.proofs.Picks.{pick_yes, pick_no}
+use Rattle.std.specs.Prelude.{Option, Some, None}
 use Rattle.dir_entries.proofs.Comparing.{eqs_same, eqs_is}
+
+some_same : (a b : ℕ) → Some a ≡ Some b → a ≡ b
+some_same a b e = cc
+
+some_none : (a : ℕ) → Some a ≡ None → ⊥
+some_none a e = let z : ◌≡◌ {A = ℕ} 0 1 = cc in omega arith
 
 module _ (img : List ℕ) (n : ℕ) (x : List ℕ) where
   same_1 : (k : ℕ) → name img n k ≡ x → same_as img n x k ≡ 1
@@ -60,6 +70,30 @@ module _ (img : List ℕ) (n : ℕ) (x : List ℕ) where
       go : Dec (where_is img n x < k) → where_is img n x ≡ k
       go (yes q) = absurd (d (where_is img n x) q (where_hit (omega arith)))
       go (no q) = omega (arith, where_least k l e)
+
+  pub there_at : (k : ℕ) → k < entries img n → name img n k ≡ x → ((j : ℕ) → j < k → name img n j ≡ x → ⊥) → there img n x ≡ Some k
+  there_at k l e d =
+      let w = where_is_lem k l e d in
+      let t : ltb (where_is img n x) (entries img n) ≡ true = lt-ltb _ _ (omega (arith, w)) in
+      rw (t, w)
+
+  pub there_none : ((k : ℕ) → k < entries img n → name img n k ≡ x → ⊥) → there img n x ≡ None
+  there_none d = let t : ltb (where_is img n x) (entries img n) ≡ false = le-ltb _ _ (omega (arith, where_none d)) in rw t
+
+  -- what is answered, by the place
+  pub there_is : (k : ℕ) → there img n x ≡ Some k → (where_is img n x ≡ k) × (k < entries img n)
+  there_is k e = go (dec_lt (where_is img n x) (entries img n))
+    where
+      go : Dec (where_is img n x < entries img n) → (where_is img n x ≡ k) × (k < entries img n)
+      go (yes l) = let w : where_is img n x ≡ k = some_same _ k (sym (pick_yes (where_is img n x) (entries img n) (Some (where_is img n x)) None l) ∙ e) in (w, omega arith)
+      go (no l) = absurd (some_none k (sym e ∙ pick_no (where_is img n x) (entries img n) (Some (where_is img n x)) None (omega arith)))
+
+  pub there_no : there img n x ≡ None → entries img n ≤ where_is img n x
+  there_no e = go (dec_lt (where_is img n x) (entries img n))
+    where
+      go : Dec (where_is img n x < entries img n) → entries img n ≤ where_is img n x
+      go (yes l) = absurd (some_none _ (sym (pick_yes (where_is img n x) (entries img n) (Some (where_is img n x)) None l) ∙ e))
+      go (no l) = omega arith
 
   -- where no two entries have one name, any entry with it
   pub where_only : ((i j : ℕ) → i < j → j < entries img n → name img n i ≡ name img n j → ⊥) → (k : ℕ) → k < entries img n → name img n k ≡ x → where_is img n x ≡ k

@@ -1,6 +1,6 @@
 -- A directory's entries as the calls see and change them (RULES): "Entry k stands at byte 260k of its directory and may cross into another block".
 -- nb is the card's block count, d the record of directory n as the card has it.
-use Rattle.std.specs.Prelude.{ℕ, ◌+◌, ◌-◌, ◌*◌, ◌/◌, Bool, true, false, List, [], ◌∷◌, eqb, replicate}
+use Rattle.std.specs.Prelude.{ℕ, ◌+◌, ◌-◌, ◌*◌, ◌/◌, Bool, true, false, Option, Some, None, List, [], ◌∷◌, eqb, ltb, replicate}
 use Rattle.words.specs.Words.{pick}
 use Rattle.card_layout.specs.Sizes.{entry_size}
 use Rattle.card_layout.specs.declared.inode.DiskINode.{DiskINode}
@@ -25,6 +25,10 @@ same_as img n x k = pick (eqs (name img n k) x) 1 0
 -- the first entry of n with the name x, and the number of its entries where there is none
 unfoldable pub where_is : List ℕ → ℕ → List ℕ → ℕ
 where_is img n x = first_from (same_as img n x) 0 (entries img n)
+
+-- the place of the first entry of n with the name x, where there is one
+abbrev pub there : List ℕ → ℕ → List ℕ → Option ℕ
+there img n x = pick (ltb (where_is img n x) (entries img n)) (Some (where_is img n x)) None
 
 -- ---- reading and writing entries
 

@@ -6,13 +6,13 @@ ghost use Rattle.card_layout.specs.Inode.{count};
 ghost use Rattle.card_layout.specs.Entry.{upto_nul};
 ghost use Rattle.card_rules.specs.View.{data_at, name};
 ghost use Rattle.check_names.specs.InnerReading.{Readable};
-ghost use Rattle.dir_entries.specs.Entries.{eqs, where_is};
-ghost use Rattle.dir_entries.specs.Inner.{FindAsks};
+ghost use Rattle.dir_entries.specs.Entries.{eqs, there};
+ghost use Rattle.dir_entries.specs.Inner.{FindAsks, tail_differs};
 ghost use Rattle.dir_entries.specs.Names.{is_dots, no_nul, storable};
-ghost use Rattle.dir_entries.specs.Inner.{tail_differs};
 
 use card_layout::{BLKSIZE, BlockId, DIRENT_SIZE, INodeId};
 use check_names::loading;
+use words::Number;
 
 // Whether no name goes past byte k of e: a NUL is there, or nothing.
 fn ends_at(e: &[u8], k: usize) -> bool
@@ -24,20 +24,18 @@ fn ends_at(e: &[u8], k: usize) -> bool
     true
 }
 
-// Whether e begins with the name x, byte by byte: it ends where x does.
+// Whether e begins with the name x, byte by byte: it ends where x does. As slices they would be gone through once more, for a NUL in x.
 fn begins(e: &[u8], x: &[u8]) -> bool
     requires { (length x.now ≤ length e.now) × (get_or e.now (length x.now) 0 ≡ 0) }
     ensures { result ≡ eqs (upto_nul e.now) x.now }
 {
-    let mut i = 0;
-    while i < x.len() {
+    for i in 0..x.len() {
         if e[i] != x[i] {
             return false;
         }
         if e[i] == 0 {
             return false;
         }
-        i += 1;
     }
     true
 }
@@ -51,7 +49,7 @@ fn tail_differs(e: &[u8], x: &[u8]) -> bool
         return false;
     }
     let at = x.len() - 8;
-    words::get64(e, at) != words::get64(x, at)
+    u64::get(e, at) != u64::get(x, at)
 }
 
 // Whether what stands before the first NUL of e is x. Most names fall to the first test, and most others of x's length to the third.
@@ -68,13 +66,6 @@ fn same(e: &[u8], x: &[u8]) -> bool
         return false;
     }
     begins(e, x)
-}
-
-// How many bytes of an entry's name tell whether it is a name of k bytes.
-fn telling(k: usize) -> usize
-    ensures { result ≡ min (k + 1) 256 }
-{
-    if k < 256 { k + 1 } else { 256 }
 }
 
 // Whether entry k has the name x, wherever it stands.
@@ -101,53 +92,43 @@ fn named(image: &[u8], n: INodeId, b: BlockId, k: usize, w: usize, x: &[u8]) -> 
     same(&image[at..end], x)
 }
 
-// The first of the entries of n with the name x, and their number where there is none. Each block is looked up once.
-pub fn find_entry(image: &[u8], n: INodeId, total: usize, x: &[u8]) -> usize
+// The first of the entries of n with the name x. Each block is looked up once.
+pub fn find_entry(image: &[u8], n: INodeId, total: usize, x: &[u8]) -> Option<usize>
     requires { FindAsks image.now n.0 total }
-    ensures { result ≡ where_is image.now n.0 x.now }
+    ensures { result ≡ there image.now n.0 x.now }
 {
-    let w = telling(x.len());
+    // So many bytes of an entry's name tell whether it is x. No place of loading: that has the entry's number too, which is not wanted here.
+    let w = (x.len() + 1).min(256);
     let p = loading::nowhere(n);
     let mut c = p.index;
     let mut b = p.block;
-    let mut k = 0;
-    while k < total {
+    for k in 0..total {
         let i = DIRENT_SIZE * k / BLKSIZE;
         b = loading::get_near(image, n, c, b, i);
         c = i;
         if named(image, n, b, k, w, x) {
-            return k;
+            return Some(k);
         }
-        k += 1;
     }
-    total
+    None
 }
 
 // Whether x is "." or "..".
 pub fn is_dots(x: &[u8]) -> bool
     ensures { result ≡ is_dots x.now }
 {
-    if x.len() == 1 {
-        return x[0] == 46;
-    }
-    if x.len() != 2 {
-        return false;
-    }
-    if x[0] != 46 {
-        return false;
-    }
-    x[1] == 46
+    let dot: &[u8] = b".";
+    let dots: &[u8] = b"..";
+    x == dot || x == dots
 }
 
 fn no_nul(x: &[u8]) -> bool
     ensures { result ≡ no_nul x.now }
 {
-    let mut i = 0;
-    while i < x.len() {
-        if x[i] == 0 {
+    for b in x {
+        if *b == 0 {
             return false;
         }
-        i += 1;
     }
     true
 }
@@ -156,11 +137,5 @@ fn no_nul(x: &[u8]) -> bool
 pub fn storable_name(x: &[u8]) -> bool
     ensures { result ≡ storable x.now }
 {
-    if x.len() == 0 {
-        return false;
-    }
-    if x.len() > 255 {
-        return false;
-    }
-    no_nul(x)
+    (1..=255).contains(&x.len()) && no_nul(x)
 }

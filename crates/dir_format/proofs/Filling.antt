@@ -6,11 +6,13 @@ use Prim.Native.Nat.{ℕ, zero, suc, ◌+◌, ◌-◌, ◌*◌, ◌/◌, ◌^◌
 use native.Mathlib.Nat.{add-suc}
 use native.Mathlib.Omega.{arith}
 use native.Mathlib.Decide.{ℕ_discrete}
-use lib.ListN.{length, set, length-set}
+use lib.ListN.{length, set, length-set, replicate, length-replicate, get_or-replicate}
+use borrow.Rule.Slice.PartMut.{put_mid}
+use Rattle.std.proofs.lemmas.Slice.{put_mid-paste}
 use lib.Seq.{ext_get_or, get_or-set_same, get_or-set_other}
 use Rattle.words.specs.Words.{byte, Bytes}
-use Rattle.words.specs.Runs.{turns}
-use Rattle.words.proofs.Runs.{turns_keep}
+use Rattle.words.specs.Runs.{puts, turns}
+use Rattle.words.proofs.Runs.{bytes_puts, length-puts, puts_paste, turns_keep}
 use Rattle.card_map.specs.Bits.{map_bit, set_bit}
 use Rattle.card_map.proofs.Bits.{bit_of, bit_of_zero, bit_of_suc}
 use Rattle.card_map.proofs.Map.{length-set_bit, byte-set_bit_off, bit_set_same, bit_set_other, bit_at, bytes_set_bit}
@@ -99,9 +101,36 @@ module _ (img : List ℕ) (j : ℕ) (inside : 8192 + j < length img) where
           go (no d) = rw get_or-set_other (sym (s.others b d))
 
 -- the next byte of a run
-pub byte_more : (i j : ℕ) (img x : List ℕ) → i ≤ j → x ≡ bits_set (8 * i) (8 * j) img → 8192 + j < length x → Bytes x
+byte_more : (i j : ℕ) (img x : List ℕ) → i ≤ j → x ≡ bits_set (8 * i) (8 * j) img → 8192 + j < length x → Bytes x
     → set x (8192 + j) 255 ≡ bits_set (8 * i) (8 * (j + 1)) img
 byte_more i j img x l e inside small =
     let n : 8 ≡ 8 * (j + 1) - 8 * j = omega arith in
     byte_filled x j inside small ∙ ap (λ (k : ℕ). turns (λ b y. set_bit y b) (8 * j) k x) n ∙ ap (bits_set (8 * j) (8 * (j + 1))) e
     ∙ goes_on (8 * i) (8 * j) (8 * (j + 1)) img (omega arith) (omega arith)
+
+-- a run of bytes that is filled whole
+run_filled : (img : List ℕ) (i k : ℕ) → 8192 + (i + k) ≤ length img → Bytes img
+    → puts img (λ j. 8192 + i + j) (λ j. 255) k ≡ bits_set (8 * i) (8 * (i + k)) img
+unfolding puts turns
+run_filled img i zero l small = let e : 0 ≡ 8 * (i + 0) - 8 * i = omega arith in ap (λ (k : ℕ). turns (λ b x. set_bit x b) (8 * i) k img) e
+run_filled img i (suc k) l small =
+    let a : 8192 + i + k ≡ 8192 + (i + k) = omega arith in
+    let b : i + k + 1 ≡ i + suc k = omega arith in
+    let long = length-puts img (λ j. 8192 + i + j) (λ j. 255) k in
+    ap (λ (n : ℕ). set (puts img (λ j. 8192 + i + j) (λ j. 255) k) n 255) a
+    ∙ byte_more i (i + k) img (puts img (λ j. 8192 + i + j) (λ j. 255) k) (omega arith) (run_filled img i k (omega arith) small) (omega arith)
+    (bytes_puts img (λ j. 8192 + i + j) (λ j. 255) k small (λ j h. omega arith))
+    ∙ ap (λ (n : ℕ). bits_set (8 * i) (8 * n) img) b
+
+pub bytes_filled : (img : List ℕ) (i e m : ℕ) → i ≤ e → 8192 + e ≤ length img → Bytes img → m ≡ 8192 + e - (8192 + i)
+    → put_mid (8192 + i) (8192 + e - (8192 + i)) img (replicate m 255) ≡ bits_set (8 * i) (8 * e) img
+bytes_filled img i e m l h small q =
+    let n : i + (e - i) ≡ e = omega arith in
+    let k : m ≡ e - i = omega arith in
+    let w = length-replicate {A = ℕ} m 255 in
+    put_mid-paste (8192 + i) (8192 + e - (8192 + i)) img (replicate m 255) (replicate m 255) (e - i) refl (omega arith) (omega arith)
+    ∙ sym
+    (puts_paste img (8192 + i) (λ j. 255) (replicate m 255) (e - i) (omega arith) (omega arith)
+    (λ j b. sym (get_or-replicate m j 255 0 (omega arith))))
+    ∙ run_filled img i (e - i) (omega arith) small
+    ∙ ap (λ (n : ℕ). bits_set (8 * i) (8 * n) img) n

@@ -1,6 +1,6 @@
 -- Format (RULES): "to a byte size rounds blocks up, answers 12 outside 16 to 32,768 blocks or if the slice is short, writes 48 superblock bytes (text
 -- "simple file system"), the map, the root record, and two entries in block 3; all else stays".
-use Rattle.std.specs.Prelude.{ℕ, ◌+◌, ◌-◌, ◌*◌, List, ◌∷◌, ltb, length, replicate}
+use Rattle.std.specs.Prelude.{ℕ, ◌+◌, ◌-◌, ◌*◌, List, ◌∷◌, ltb, length, replicate, Result, Err}
 use Rattle.words.specs.Words.{pick}
 use Rattle.words.specs.Runs.{copied, zeroed, turns}
 use Rattle.card_layout.specs.Sizes.{fewest, most, maps_for, first_after_map, blocks_for, block_size, entry_size}
@@ -12,16 +12,16 @@ use Rattle.card_layout.specs.declared.inode.FileType.TheVariants.{Dir}
 use Rattle.card_layout.specs.declared.inode.DiskINode.{DiskINode}
 use Rattle.card_map.specs.Bits.{set_bit}
 use Rattle.dir_entries.specs.Names.{dot, dots}
-use Rattle.dir_answers.specs.Answers.{if_done}
-use Rattle.dir_answers.specs.declared.Acted.{Acted}
-use Rattle.dir_answers.specs.declared.Acted.TheVariants.{Done, InvalidParam}
+use Rattle.refusals.specs.Refusals.{if_done, done}
+use Rattle.refusals.specs.declared.Refusal.TheVariants.{InvalidParam}
+use Rattle.refusals.specs.declared.Refusal.{Refusal}
 
 -- for a slice of len bytes
-unfoldable pub format_answer : ℕ → ℕ → Acted
+unfoldable pub format_answer : ℕ → ℕ → Result Unit Refusal
 format_answer len space =
-    pick (ltb (blocks_for space) fewest) InvalidParam
-    (pick (ltb most (blocks_for space)) InvalidParam
-    (pick (ltb len (block_size * blocks_for space)) InvalidParam Done))
+    pick (ltb (blocks_for space) fewest) (Err InvalidParam)
+    (pick (ltb most (blocks_for space)) (Err InvalidParam)
+    (pick (ltb len (block_size * blocks_for space)) (Err InvalidParam) done))
 
 -- "simple file system", and zeros up to 32 bytes
 abbrev pub info_text : List ℕ

@@ -1,5 +1,5 @@
 -- Link (RULES): "appends"; links up. Its tests, in order: 6, 8, 9, 7, 13, 14.
-use Rattle.std.specs.Prelude.{ℕ, ◌+◌, List, eqb}
+use Rattle.std.specs.Prelude.{ℕ, ◌+◌, List, eqb, Result, Ok, Err}
 use Rattle.card_layout.specs.Sizes.{full_links}
 use Rattle.words.specs.Words.{pick}
 use Rattle.card_layout.specs.Inode.{decoded, encoded, with_links}
@@ -8,20 +8,21 @@ use Rattle.card_layout.specs.declared.inode.Head.{Head}
 use Rattle.card_layout.specs.declared.inode.DiskINode.{DiskINode}
 use Rattle.file_requests.specs.Requests.{record_with}
 use Rattle.dir_entries.specs.Entries.{appended}
-use Rattle.dir_answers.specs.Answers.{if_done, is_dir, of_head, in_dir, new_name, entry_needs, room_for}
-use Rattle.dir_answers.specs.declared.Acted.{Acted}
-use Rattle.dir_answers.specs.declared.Acted.TheVariants.{Done, IsDir, TooManyLinks}
+use Rattle.dir_answers.specs.Answers.{is_dir, of_head, in_dir, new_name, entry_needs, room_for}
+use Rattle.refusals.specs.Refusals.{if_done, done}
+use Rattle.refusals.specs.declared.Refusal.TheVariants.{IsDir, TooManyLinks}
+use Rattle.refusals.specs.declared.Refusal.{Refusal}
 
 -- 7, 13 and 14, for a directory with head h and an inode with head g
-unfoldable pub link_room : List ℕ → Head → Head → Acted
+unfoldable pub link_room : List ℕ → Head → Head → Result Unit Refusal
 link_room img h g =
-    pick (is_dir g.type_) IsDir
-    (pick (eqb g.nlinks full_links) TooManyLinks
-    (room_for img (entry_needs h) Done))
+    pick (is_dir g.type_) (Err IsDir)
+    (pick (eqb g.nlinks full_links) (Err TooManyLinks)
+    (room_for img (entry_needs h) done))
 
 -- inode c is to be named x in directory p
-unfoldable pub link_answer : List ℕ → ℕ → List ℕ → ℕ → Acted
-link_answer img p x c = in_dir img p (λ h. new_name img p x (of_head (decoded img c) IsDir (λ g. link_room img h g)))
+unfoldable pub link_answer : List ℕ → ℕ → List ℕ → ℕ → Result Unit Refusal
+link_answer img p x c = in_dir img p (λ h. new_name img p x (of_head (decoded img c) (Err IsDir) (λ g. link_room img h g)))
 
 -- d is the record of p, e that of c
 unfoldable pub linked : ℕ → ℕ → DiskINode → List ℕ → ℕ → DiskINode → List ℕ → List ℕ

@@ -1,19 +1,21 @@
 -- Find and the entry at an index (RULES). Their tests, in order: 6, 10.
-use Rattle.std.specs.Prelude.{ℕ, ◌*◌, List, ltb, replicate}
+use Rattle.std.specs.Prelude.{ℕ, ◌*◌, List, ltb, replicate, Result, Ok, Err}
 use Rattle.words.specs.Words.{pick}
 use Rattle.card_layout.specs.Sizes.{entry_size}
+use Rattle.card_layout.specs.declared.INodeId.{INodeId}
 use Rattle.card_rules.specs.View.{entries, file_bytes}
 use Rattle.dir_entries.specs.Entries.{where_is}
-use Rattle.dir_answers.specs.Answers.{the_inode, if_done, in_dir, named_by}
-use Rattle.dir_answers.specs.declared.Acted.{Acted}
-use Rattle.dir_answers.specs.declared.Acted.TheVariants.{Done, EntryNotFound}
+use Rattle.dir_answers.specs.Answers.{the_inode, in_dir, named_by}
+use Rattle.refusals.specs.Refusals.{if_done, done}
+use Rattle.refusals.specs.declared.Refusal.TheVariants.{EntryNotFound}
+use Rattle.refusals.specs.declared.Refusal.{Refusal}
 
 -- the number that directory p has for the name x
-unfoldable pub find_answer : List ℕ → ℕ → List ℕ → Acted
-find_answer img p x = in_dir img p (λ h. pick (ltb (where_is img p x) (entries img p)) (the_inode (named_by img p x)) EntryNotFound)
+unfoldable pub find_answer : List ℕ → ℕ → List ℕ → Result INodeId Refusal
+find_answer img p x = in_dir img p (λ h. pick (ltb (where_is img p x) (entries img p)) (the_inode (named_by img p x)) (Err EntryNotFound))
 
-unfoldable pub entry_answer : List ℕ → ℕ → ℕ → Acted
-entry_answer img p k = in_dir img p (λ h. pick (ltb k (entries img p)) Done EntryNotFound)
+unfoldable pub entry_answer : List ℕ → ℕ → ℕ → Result Unit Refusal
+entry_answer img p k = in_dir img p (λ h. pick (ltb k (entries img p)) done (Err EntryNotFound))
 
 -- "Entry at an index hands back the 260 bytes by value, 260 zeros if refused."
 abbrev pub no_entry : List ℕ

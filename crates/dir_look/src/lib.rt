@@ -3,63 +3,45 @@
 
 ghost use Rattle.std.specs.Prelude.{◌≡◌};
 ghost use Rattle.card_rules.specs.Whole.{Reached, Whole};
-ghost use Rattle.dir_answers.specs.Inner.{DirHead};
+ghost use Rattle.refusals.specs.Refusals.{giving};
 ghost use Rattle.dir_look.specs.Look.{find_answer, entry_answer, entry_bytes};
 
-use card_layout::inode::{Decoded, Head};
 use card_layout::{DIRENT_SIZE, INodeId};
 use check_names::loading;
-use dir_answers::{Acted, judging};
+use dir_answers::judging;
+use refusals::Refusal;
 
 // As wide as an index.
 const ENTRY: u64 = DIRENT_SIZE as u64;
 
-// 10, in directory p with head h.
-fn find_in(image: &[u8], p: INodeId, h: Head, x: &[u8]) -> Acted
-    requires { Whole image.now × Reached image.now p.0 × DirHead image.now p.0 h }
-    ensures { result ≡ find_answer image.now p.0 x.now }
-{
-    let k = judging::is_there(image, p, h, x);
-    if k >= h.size as usize / DIRENT_SIZE {
-        return Acted::EntryNotFound;
-    }
-    let c = loading::entry_number(image, p, k);
-    Acted::Inode(c)
-}
-
 // The number that directory p has for the name x.
-pub fn find(image: &[u8], p: INodeId, x: &[u8]) -> Acted
+#[tactic(auto, unfolding(crate::specs::Look::find_answer))]
+pub fn find(image: &[u8], p: INodeId, x: &[u8]) -> Result<INodeId, Refusal>
     requires { Whole image.now × Reached image.now p.0 }
     ensures { result ≡ find_answer image.now p.0 x.now }
 {
-    match judging::dir_head(image, p) {
-        Decoded::Good(h) => find_in(image, p, h, x),
-        Decoded::BadKind => Acted::NotDir,
-    }
+    let h = judging::dir_head(image, p)?;
+    let k = judging::place_of(image, p, h, x)?;
+    Ok(loading::entry_number(image, p, k))
 }
 
-// Whether directory p has an entry k: any 64-bit number may be asked for.
-pub fn judge_entry(image: &[u8], p: INodeId, k: u64) -> Acted
+// The 260 bytes of entry k of directory p: any 64-bit number may be asked for.
+#[tactic(auto, unfolding(crate::specs::Look::entry_answer, crate::specs::Look::entry_bytes))]
+pub fn entry_at(image: &[u8], p: INodeId, k: u64) -> Result<[u8; DIRENT_SIZE], Refusal>
     requires { Whole image.now × Reached image.now p.0 }
-    ensures { result ≡ entry_answer image.now p.0 k }
+    ensures { result ≡ giving (entry_answer image.now p.0 k) (entry_bytes image.now p.0 k) }
 {
-    let Decoded::Good(h) = judging::dir_head(image, p) else {
-        return Acted::NotDir;
-    };
+    let h = judging::dir_head(image, p)?;
     if k >= h.size as u64 / ENTRY {
-        return Acted::EntryNotFound;
+        return Err(Refusal::EntryNotFound);
     }
-    Acted::Done
+    Ok(loading::load_entry(image, p, k as usize))
 }
 
-// Its 260 bytes, zeros where there is none.
+// The same by value, and 260 zeros if refused.
 pub fn entry(image: &[u8], p: INodeId, k: u64) -> [u8; DIRENT_SIZE]
     requires { Whole image.now × Reached image.now p.0 }
     ensures { result ≡ entry_bytes image.now p.0 k }
 {
-    let r = judge_entry(image, p, k);
-    let Acted::Done = r else {
-        return [0u8; DIRENT_SIZE];
-    };
-    loading::load_entry(image, p, k as usize)
+    entry_at(image, p, k).unwrap_or([0; DIRENT_SIZE])
 }

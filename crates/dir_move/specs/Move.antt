@@ -1,7 +1,7 @@
 -- Move (RULES): "in one directory rewrites the name in place; otherwise it appends to the target, then removes, and for a directory adjusts both
 -- parents' links .. the number in ".." becomes the new parent's, its other bytes staying". Its tests, in order: source 6, 7, target 6, then 8, 9, 10, 12,
 -- 13, 14.
-use Rattle.std.specs.Prelude.{ℕ, zero, suc, ◌+◌, ◌-◌, Bool, true, false, List, eqb, ltb, replicate}
+use Rattle.std.specs.Prelude.{ℕ, zero, suc, ◌+◌, ◌-◌, Bool, true, false, List, eqb, ltb, replicate, Result, Err}
 use Rattle.words.specs.Words.{pick, put_word}
 use Rattle.card_layout.specs.Sizes.{entry_size, full_links}
 use Rattle.card_layout.specs.Inode.{decoded, with_links}
@@ -13,9 +13,10 @@ use Rattle.file_blocks.specs.Bytes.{filled}
 use Rattle.file_requests.specs.Requests.{record_with}
 use Rattle.dir_entries.specs.Entries.{where_is, entry_put, appended, removed}
 use Rattle.dir_entries.specs.Names.{is_dots}
-use Rattle.dir_answers.specs.Answers.{if_done, is_dir, of_head, in_dir, new_name, entry_needs, room_for, named_by}
-use Rattle.dir_answers.specs.declared.Acted.{Acted}
-use Rattle.dir_answers.specs.declared.Acted.TheVariants.{Done, IsDir, EntryNotFound, InvalidParam, TooManyLinks}
+use Rattle.dir_answers.specs.Answers.{is_dir, of_head, in_dir, new_name, entry_needs, room_for, named_by}
+use Rattle.refusals.specs.Refusals.{if_done, done}
+use Rattle.refusals.specs.declared.Refusal.TheVariants.{IsDir, EntryNotFound, InvalidParam, TooManyLinks}
+use Rattle.refusals.specs.declared.Refusal.{Refusal}
 
 -- whether climbing ".." from directory t meets c before the root, in at most so many steps: "a directory moved into itself or below"
 unfoldable pub climbs : List ℕ → ℕ → ℕ → ℕ → Bool
@@ -23,30 +24,30 @@ climbs img c t zero = false
 climbs img c t (suc b) = pick (eqb t c) true (pick (eqb t 1) false (climbs img c (entry img t 1) b))
 
 -- 14 for a target with head h: the old entry is still there
-abbrev pub entry_room : List ℕ → Head → Acted
-entry_room img h = room_for img (entry_needs h) Done
+abbrev pub entry_room : List ℕ → Head → Result Unit Refusal
+entry_room img h = room_for img (entry_needs h) done
 
 -- 12, 13 and 14 for directory c, and a target t with head h
-abbrev pub dir_room : ℕ → List ℕ → ℕ → ℕ → Head → Acted
-dir_room nb img c t h = pick (climbs img c t nb) InvalidParam (pick (eqb h.nlinks full_links) TooManyLinks (entry_room img h))
+abbrev pub dir_room : ℕ → List ℕ → ℕ → ℕ → Head → Result Unit Refusal
+dir_room nb img c t h = pick (climbs img c t nb) (Err InvalidParam) (pick (eqb h.nlinks full_links) (Err TooManyLinks) (entry_room img h))
 
 -- for inode c with head g
-unfoldable pub move_room : ℕ → List ℕ → ℕ → Head → ℕ → Head → Acted
+unfoldable pub move_room : ℕ → List ℕ → ℕ → Head → ℕ → Head → Result Unit Refusal
 move_room nb img c g t h = pick (is_dir g.type_) (dir_room nb img c t h) (entry_room img h)
 
 -- 12, 13 and 14 for inode c, whatever its head
-abbrev pub child_answer : ℕ → List ℕ → ℕ → ℕ → Head → Acted
-child_answer nb img c t h = of_head (decoded img c) EntryNotFound (λ g. move_room nb img c g t h)
+abbrev pub child_answer : ℕ → List ℕ → ℕ → ℕ → Head → Result Unit Refusal
+child_answer nb img c t h = of_head (decoded img c) (Err EntryNotFound) (λ g. move_room nb img c g t h)
 
 -- 10, and the rest: a rename in one directory takes no block and no link, so that 12, 13 and 14 cannot arise
-abbrev pub source_answer : ℕ → List ℕ → ℕ → List ℕ → ℕ → Head → Acted
+abbrev pub source_answer : ℕ → List ℕ → ℕ → List ℕ → ℕ → Head → Result Unit Refusal
 source_answer nb img p old t h =
-    pick (ltb (where_is img p old) (entries img p)) (pick (eqb p t) Done (child_answer nb img (named_by img p old) t h)) EntryNotFound
+    pick (ltb (where_is img p old) (entries img p)) (pick (eqb p t) done (child_answer nb img (named_by img p old) t h)) (Err EntryNotFound)
 
 -- the name `old` in p becomes `new` in t
-unfoldable pub move_answer : ℕ → List ℕ → ℕ → List ℕ → ℕ → List ℕ → Acted
+unfoldable pub move_answer : ℕ → List ℕ → ℕ → List ℕ → ℕ → List ℕ → Result Unit Refusal
 move_answer nb img p old t new =
-    in_dir img p (λ s. pick (is_dots old) IsDir (in_dir img t (λ h. new_name img t new (source_answer nb img p old t h))))
+    in_dir img p (λ s. pick (is_dots old) (Err IsDir) (in_dir img t (λ h. new_name img t new (source_answer nb img p old t h))))
 
 -- ".." of directory c names t, its other bytes staying
 unfoldable pub up_put : ℕ → ℕ → ℕ → List ℕ → List ℕ

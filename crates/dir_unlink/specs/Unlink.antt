@@ -1,6 +1,6 @@
 -- Unlink (RULES): "puts the last entry in the hole, shortens the directory by 260, and at no links frees the inode and all it owns; the dead record
 -- keeps its fields with links 0". Its tests, in order: 6, 7, 10, 11.
-use Rattle.std.specs.Prelude.{ℕ, ◌-◌, ◌/◌, Bool, false, List, eqb, ltb}
+use Rattle.std.specs.Prelude.{ℕ, ◌-◌, ◌/◌, Bool, false, List, eqb, ltb, Result, Err}
 use Rattle.words.specs.Words.{pick}
 use Rattle.card_layout.specs.Sizes.{entry_size}
 use Rattle.card_layout.specs.Inode.{decoded, encoded, with_links}
@@ -13,24 +13,25 @@ use Rattle.file_requests.specs.Resizing.{file_blocks}
 use Rattle.file_requests.specs.Requests.{record_with}
 use Rattle.dir_entries.specs.Entries.{where_is, removed}
 use Rattle.dir_entries.specs.Names.{is_dots}
-use Rattle.dir_answers.specs.Answers.{if_done, is_dir, of_head, in_dir, named_by}
-use Rattle.dir_answers.specs.declared.Acted.{Acted}
-use Rattle.dir_answers.specs.declared.Acted.TheVariants.{Done, IsDir, EntryNotFound, DirNotEmpty}
+use Rattle.dir_answers.specs.Answers.{is_dir, of_head, in_dir, named_by}
+use Rattle.refusals.specs.Refusals.{if_done, done}
+use Rattle.refusals.specs.declared.Refusal.TheVariants.{IsDir, EntryNotFound, DirNotEmpty}
+use Rattle.refusals.specs.declared.Refusal.{Refusal}
 
 -- "more than two entries", for an inode with head g
 abbrev pub not_empty : Head → Bool
 not_empty g = pick (is_dir g.type_) (ltb 2 (g.size / entry_size)) false
 
 -- 11, of inode c
-abbrev pub child_answer : List ℕ → ℕ → Acted
-child_answer img c = of_head (decoded img c) EntryNotFound (λ g. pick (not_empty g) DirNotEmpty Done)
+abbrev pub child_answer : List ℕ → ℕ → Result Unit Refusal
+child_answer img c = of_head (decoded img c) (Err EntryNotFound) (λ g. pick (not_empty g) (Err DirNotEmpty) done)
 
-unfoldable pub unlink_answer : List ℕ → ℕ → List ℕ → Acted
+unfoldable pub unlink_answer : List ℕ → ℕ → List ℕ → Result Unit Refusal
 unlink_answer img p x =
     in_dir img p
     (λ h.
-    pick (is_dots x) IsDir
-    (pick (ltb (where_is img p x) (entries img p)) (child_answer img (named_by img p x)) EntryNotFound))
+    pick (is_dots x) (Err IsDir)
+    (pick (ltb (where_is img p x) (entries img p)) (child_answer img (named_by img p x)) (Err EntryNotFound)))
 
 -- the links that an inode with head g has left, and those of the directory with head h that named it
 abbrev pub links_left : Head → ℕ

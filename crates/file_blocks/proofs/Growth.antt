@@ -14,14 +14,15 @@ use Rattle.words.specs.Runs.{turns}
 use Rattle.words.proofs.Numbers.{length-put}
 use Rattle.words.proofs.Runs.{turns_keep}
 use Rattle.card_layout.specs.Slots.{seconds}
-use Rattle.card_map.specs.declared.FreeBlock.{FreeBlock}
-use Rattle.card_map.specs.declared.FreeBlock.TheVariants.{At, Nothing}
+use Rattle.card_layout.specs.declared.BlockId.{BlockId}
 use Rattle.card_map.specs.Free.{lowest, taken}
 use Rattle.card_map.specs.Inner.{found_below}
 use Rattle.card_map.proofs.Laws.{length_taken}
+use Rattle.file_blocks.specs.Inner.{Sizes}
 use Rattle.file_blocks.specs.Ranges.{within, part_from, part_to, parts_from, parts_to}
 use Rattle.file_blocks.specs.Taking.{Cursor, Growing, next_free, next_of, took_next, into_word, into_direct, into_indirect, into_double, moved, grow_run, grow_indirect, grow_double, grow_level, grow_direct, grow_single, grow_part, grow_twofold, grown}
 use Rattle.file_blocks.proofs.Picks.{pick-both, pick_yes, pick_no, gap_past, gap_short, gap_over}
+use Rattle.std.specs.Prelude.{Option, Some, None}
 
 -- ---- the second level
 
@@ -62,15 +63,15 @@ module _ (nb : ℕ) (img : List ℕ) (from : ℕ) where
       go (no l) = omega (arith, next_free_none (omega arith))
 
 -- it is the block that a search answers
-abbrev pub number_of : FreeBlock → ℕ
-number_of (At b) = b.0
-number_of Nothing = 0
+abbrev pub number_of : Option BlockId → ℕ
+number_of (Some b) = b.0
+number_of None = 0
 
-number_pick : (t : Bool) (b : ℕ) → number_of (pick t (At (record { 0 = b })) Nothing) ≡ pick t b 0
+number_pick : (t : Bool) (b : ℕ) → number_of (pick t (Some (record { 0 = b })) None) ≡ pick t b 0
 number_pick true b = refl
 number_pick false b = refl
 
-pub next_free_is : (nb : ℕ) (img : List ℕ) (from : ℕ) (f : FreeBlock) → f ≡ found_below nb (lowest img from nb) → number_of f ≡ next_free nb img from
+pub next_free_is : (nb : ℕ) (img : List ℕ) (from : ℕ) (f : Option BlockId) → f ≡ found_below nb (lowest img from nb) → number_of f ≡ next_free nb img from
 unfolding next_free
 next_free_is nb img from f e = ap number_of e ∙ number_pick (ltb (lowest img from nb) nb) (lowest img from nb)
 
@@ -328,6 +329,26 @@ from-grown nb pos a b g low =
     let l₃ = from-grow_level nb pos a b g₂ l₂ in
     let l₄ = from-grow_direct nb pos a b g₃ l₃ in
     from-grow_twofold nb pos a b g₅ (from-grow_single nb pos a b g₄ l₄)
+
+-- ---- the size of the card, and where the next search goes on: a run leaves both within what growth asks
+
+pub took_fits : (nb : ℕ) (c : Cursor) → Sizes c.img nb → Sizes (took_next nb c).img nb × ((took_next nb c).from ≤ nb)
+took_fits nb c s = (
+  record { few = s.few; many = s.many; long = omega (arith, s.long, length-took_next nb c) },
+  from-took_next nb (omega (arith, s.few)) c,
+)
+
+pub word_fits : (nb at : ℕ) (c : Cursor) → Sizes c.img nb → Sizes (into_word nb at c).img nb × ((into_word nb at c).from ≤ nb)
+word_fits nb at c s = (
+  record { few = s.few; many = s.many; long = omega (arith, s.long, length-into_word nb at c) },
+  from-into_word nb (omega (arith, s.few)) at c,
+)
+
+pub run_fits : (nb at k : ℕ) (c : Cursor) → Sizes c.img nb → c.from ≤ nb → Sizes (grow_run nb at k c).img nb × ((grow_run nb at k c).from ≤ nb)
+run_fits nb at k c s h = (
+  record { few = s.few; many = s.many; long = omega (arith, s.long, length-grow_run nb at k c) },
+  from-grow_run nb (omega (arith, s.few)) at k c h,
+)
 
 -- ---- the record
 

@@ -9,6 +9,9 @@ use Rattle.words.specs.Words.{pick, word}
 use Rattle.words.specs.Runs.{turns}
 use Rattle.words.proofs.Runs.{length-copied, length-zeroed, turns_keep}
 use Rattle.card_layout.specs.Inode.{indirect, double}
+use Rattle.card_map.specs.Free.{freed}
+use Rattle.card_map.proofs.Laws.{length-freed}
+use Rattle.file_blocks.specs.Taking.{freed_in, free_run}
 use Rattle.file_blocks.specs.Bytes.{
   put,
   piece_read,
@@ -110,3 +113,12 @@ module _ (z : Bool) (src : List ℕ) (nb off end : ℕ) where
       length-double_fill n (indirect_fill z src nb n off end (direct_fill z src nb n off end img))
       ∙ length-indirect_fill n (direct_fill z src nb n off end img)
       ∙ length-direct_fill n img
+
+-- ---- freeing
+
+pub length-freed_in : (nb b : ℕ) (img : List ℕ) → length (freed_in nb b img) ≡ length img
+length-freed_in nb b img = length-pick (ltb b nb) (freed img b) img (length-freed img b)
+
+pub length-free_run : (nb at k : ℕ) (img : List ℕ) → length (free_run nb at k img) ≡ length img
+unfolding free_run
+length-free_run nb at k img = length-turns _ 0 k img (λ j x. length-freed_in nb (word x (at + 4 * j)) x)

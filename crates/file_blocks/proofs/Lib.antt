@@ -3,3 +3,4 @@ pub mod Lengths
 pub mod Walk
 pub mod Picks
 pub mod Growth
+pub mod Passing

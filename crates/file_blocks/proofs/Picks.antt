@@ -33,6 +33,15 @@ module _ {A : Type 0} (m a b : ℕ) (x y : A) where
   pub gap_over : a < m → m ≤ b → pick (ltb a m) (pick (ltb b m) x y) x ≡ y
   gap_over h k = pick_yes a m (pick (ltb b m) x y) x h ∙ pick_no b m x y k
 
+  -- the same by one test: y where t
+  pub gap_by : (t : Bool) → t ≡ pick (ltb a m) (pick (ltb b m) false true) false → pick t y x ≡ pick (ltb a m) (pick (ltb b m) x y) x
+  gap_by t e = ap (λ (s : Bool). pick s y x) e ∙ tests (ltb a m) (ltb b m)
+    where
+      tests : (s s' : Bool) → pick (pick s (pick s' false true) false) y x ≡ pick s (pick s' x y) x
+      tests true true = refl
+      tests true false = refl
+      tests false s' = refl
+
 -- two arguments that are equal
 pub both : {A : Type 0} (F : ℕ → ℕ → A) (i i' e e' : ℕ) → i ≡ i' → e ≡ e' → F i e ≡ F i' e'
 both F i i' e e' p q = ap (λ (x : ℕ). F x e) p ∙ ap (F i') q

@@ -5,8 +5,11 @@ use mathlib.Core.Path.{◌≡◌}
 use mathlib.Core.Logic.{◌≢◌}
 use Rattle.words.specs.Inner.{Apart}
 use native.Mathlib.Omega.{arith}
+use lib.ListN.{length}
 use Rattle.file_blocks.specs.Bytes.{piece_lo, piece_hi}
+use Rattle.file_blocks.specs.Inner.{SpanAsks}
 use Rattle.file_blocks.specs.Ranges.{within}
+use mathlib.Core.List.{List}
 
 -- ---- a number brought into a range
 
@@ -28,7 +31,29 @@ shift a c i j ci ij = omega arith
 pub indirect_room : (b nb len f g : ℕ) → b < nb → 4096 * nb ≤ len
     → 4096 * b + 4 * (within 12 1036 f - 12) + 4 * (within 12 1036 g - within 12 1036 f) ≤ len
 indirect_room b nb len f g l h =
-    room b nb len 12 (within 12 1036 f) (within 12 1036 g) l h (within_low 12 1036 f) (within_high 12 1036 f (omega arith)) (within_high 12 1036 g (omega arith))
+    room b nb len 12 (within 12 1036 f) (within 12 1036 g) l h (within_low 12 1036 f) (within_high 12 1036 f (omega arith))
+    (within_high 12 1036 g (omega arith))
+
+-- what fits into a list fits into one that is as long
+pub same_room : (n : ℕ) (out x : List ℕ) → length out ≡ length x → n ≤ length x → n ≤ length out
+same_room n out x e h = omega arith
+
+-- ---- what reading or filling a span asks, it asks of a part of it
+
+pub span_part : (img : List ℕ) (nb i e j k off end : ℕ) (R : Type 0) → SpanAsks img nb i e off end R → (j < k → (i ≤ j) × (k ≤ e))
+    → SpanAsks img nb j k off end R
+span_part img nb i e j k off end R s h = (s.0, inside, s.2, s.3, s.4)
+  where
+    inside : j < k → (off ≤ 4096 * j + 4096) × (4096 * k ≤ end + 4095)
+    inside l =
+        let p = h l in
+        let q = s.1 (omega arith) in
+        (omega arith, omega arith)
+
+-- and of a card that is as long
+pub span_long : (img out : List ℕ) (nb i e off end : ℕ) (R : Type 0) → length out ≡ length img → SpanAsks img nb i e off end R
+    → SpanAsks out nb i e off end R
+span_long img out nb i e off end R l s = (same_room _ _ _ l s.0, s.1, s.2, s.3, s.4)
 
 -- ---- a piece: where its bytes begin and end, in the file
 

@@ -1,7 +1,9 @@
 -- Inner: what the functions that change a file's blocks ask of a card: its size, and nothing of what it holds.
-use Rattle.std.specs.Prelude.{ℕ, ◌+◌, ◌-◌, ◌*◌, ◌≤◌, ◌<◌, List, length}
+use Rattle.std.specs.Prelude.{ℕ, ◌+◌, ◌*◌, ◌≤◌, ◌<◌, Bool, true, false, List, length, ltb}
+use Rattle.words.specs.Words.{pick}
 use Rattle.card_layout.specs.Sizes.{fewest, most, block_size}
-use Rattle.file_blocks.specs.Ranges.{part_from, part_to, parts_from, parts_to}
+use Rattle.card_layout.specs.Inode.{indirect, double}
+use Rattle.file_blocks.specs.Ranges.{part_from, part_to, parts_from, parts_to, in_record, in_indirect, in_second, below_double}
 use Rattle.file_blocks.specs.Bytes.{after_of, first_of}
 
 -- a card of nb blocks, as far as sizes go
@@ -21,16 +23,10 @@ abbrev pub PieceAsks : List ℕ → ℕ → ℕ → ℕ → ℕ → Type 0 → T
 PieceAsks img nb off end j R =
     (block_size * nb ≤ length img) × (j ≤ 1048576) × (off ≤ block_size * j + block_size) × (block_size * j ≤ end) × (off ≤ end) × R
 
--- those of file blocks i up to e, whose numbers stand from byte `at` on
-abbrev pub RunAsks : List ℕ → ℕ → ℕ → ℕ → ℕ → ℕ → ℕ → Type 0 → Type 0
-RunAsks img nb at i e off end R =
-    (block_size * nb ≤ length img) × (at + 4 * (e - i) ≤ length img) × (e ≤ 1048576)
-    × (i < e → (off ≤ block_size * i + block_size) × (block_size * e ≤ end + 4095)) × (off ≤ end) × R
-
--- those of the blocks that second-level block q lists
-abbrev pub PartAsks : List ℕ → ℕ → ℕ → ℕ → ℕ → Type 0 → Type 0
-PartAsks img nb off end q R =
-    (block_size * nb ≤ length img) × (q < 1024) × (off < block_size * (2060 + 1024 * q)) × (off ≤ end) × (end ≤ 4294967295) × R
+-- those of file blocks i up to e
+abbrev pub SpanAsks : List ℕ → ℕ → ℕ → ℕ → ℕ → ℕ → Type 0 → Type 0
+SpanAsks img nb i e off end R =
+    (block_size * nb ≤ length img) × (i < e → (off ≤ block_size * i + block_size) × (block_size * e ≤ end + 4095)) × (off ≤ end) × (end ≤ 4294967295) × R
 
 -- the blocks that second-level block q lists, and the second-level blocks that it touches: from, up to
 abbrev pub level_from : ℕ → ℕ → ℕ
@@ -44,3 +40,23 @@ levels_from off = parts_from (first_of off)
 
 abbrev pub levels_to : ℕ → ℕ
 levels_to end = parts_to (after_of end)
+
+-- ---- walks: those of Ranges put together, and whether a pointer block comes with a change of length
+
+-- the slots below the double indirect block d, where that is a block of the card
+abbrev pub in_double : {A : Type 0} → (A → List ℕ) → (ℕ → ℕ → ℕ → A → A) → ℕ → ℕ → ℕ → ℕ → A → A
+in_double card run nb d i e x = pick (ltb d nb) (below_double card (λ s q y. in_second run nb s q i e y) d i e x) x
+
+-- the three ranges one after the other, of inode n, whose pointers are read on the card that belongs to the state
+abbrev pub by_indirect : {A : Type 0} → (A → List ℕ) → (ℕ → ℕ → ℕ → A → A) → ℕ → ℕ → ℕ → ℕ → A → A
+by_indirect card run nb n i e x = in_indirect run nb (indirect (card x) n) i e x
+
+abbrev pub by_double : {A : Type 0} → (A → List ℕ) → (ℕ → ℕ → ℕ → A → A) → ℕ → ℕ → ℕ → ℕ → A → A
+by_double card run nb n i e x = in_double card run nb (double (card x) n) i e x
+
+abbrev pub in_file : {A : Type 0} → (A → List ℕ) → (ℕ → ℕ → ℕ → A → A) → ℕ → ℕ → ℕ → ℕ → A → A
+in_file card run nb n i e x = by_double card run nb n i e (by_indirect card run nb n i e (in_record run n i e x))
+
+-- whether a file of `more` blocks has the pointer block that comes with block m, and one of `fewer` blocks has not
+abbrev pub comes_with : ℕ → ℕ → ℕ → Bool
+comes_with m fewer more = pick (ltb fewer m) (pick (ltb more m) false true) false

@@ -4,3 +4,4 @@
 #![tactic(auto)]
 
 pub mod pieces;
+pub mod slots;

@@ -1,12 +1,12 @@
 // Where a range of a file's bytes, off to end, falls.
 ghost use Rattle.std.specs.Prelude.{◌≡◌, ◌+◌, ◌-◌, ◌*◌, ◌≤◌, ◌<◌};
 ghost use Rattle.file_blocks.specs.Bytes.{first_of, after_of, piece_lo, piece_hi};
-ghost use Rattle.file_blocks.specs.Inner.{level_from, level_to, levels_from, levels_to};
-ghost use Rattle.file_blocks.specs.Ranges.{within, parts_from, parts_to};
+ghost use Rattle.file_blocks.specs.Ranges.{part_from, part_to, parts_from, parts_to};
+ghost use Rattle.file_blocks.specs.Inner.{comes_with};
 
 use card_layout::BLKSIZE;
-use words::order;
 
+// The file blocks that the range touches: from, up to.
 pub fn first_of(off: usize) -> usize
     ensures { result ≡ first_of off }
 {
@@ -20,12 +20,7 @@ pub fn after_of(end: usize) -> usize
     (end + 4095) / BLKSIZE
 }
 
-pub fn clamp(lo: usize, hi: usize, x: usize) -> usize
-    ensures { result ≡ within lo hi x }
-{
-    order::most(lo, order::least(hi, x))
-}
-
+// The bytes of block j that it has: from, up to. By an `if` each: `saturating_sub` takes 24 instructions more for each block that is read.
 pub fn piece_lo(off: usize, j: usize) -> usize
     requires { j ≤ 1048576 }
     ensures { result ≡ piece_lo off j }
@@ -42,60 +37,40 @@ pub fn piece_hi(end: usize, j: usize) -> usize
     if end < at {
         return 0;
     }
-    order::least(end - at, BLKSIZE)
+    (end - at).min(BLKSIZE)
 }
 
-pub fn level_from(off: usize, q: usize) -> usize
+// Of blocks i up to e those that second-level block q lists: from, up to.
+pub fn part_from(i: usize, q: usize) -> usize
     requires { q ≤ 1024 }
-    ensures { result ≡ level_from off q }
+    ensures { result ≡ part_from i q }
 {
-    order::most(first_of(off), 1036 + 1024 * q)
+    i.max(1036 + 1024 * q)
 }
 
-pub fn level_to(end: usize, q: usize) -> usize
-    requires { (q ≤ 1024) × (end ≤ 4294967295) }
-    ensures { result ≡ level_to end q }
+pub fn part_to(e: usize, q: usize) -> usize
+    requires { q ≤ 1024 }
+    ensures { result ≡ part_to e q }
 {
-    order::least(after_of(end), 1036 + 1024 * q + 1024)
+    e.min(1036 + 1024 * q + 1024)
 }
 
-pub fn levels_from(off: usize) -> usize
-    ensures { result ≡ levels_from off }
+// The second-level blocks that list them: from, up to.
+pub fn parts_from(i: usize) -> usize
+    ensures { result ≡ parts_from i }
 {
-    let f = first_of(off);
-    if f < 1036 {
-        return 0;
-    }
-    (f - 1036) / 1024
+    i.saturating_sub(1036) / 1024
 }
 
-pub fn levels_to(end: usize) -> usize
-    requires { end ≤ 4294967295 }
-    ensures { result ≡ levels_to end }
+pub fn parts_to(e: usize) -> usize
+    ensures { result ≡ parts_to e }
 {
-    let g = after_of(end);
-    if g < 1036 {
-        return 0;
-    }
-    (g - 1036 + 1023) / 1024
+    (e.saturating_sub(1036) + 1023) / 1024
 }
 
-// The parts of the second level that hold slots from a, and up to b.
-pub fn parts_from(a: usize) -> usize
-    ensures { result ≡ parts_from a }
+// Whether a file of `more` blocks has the pointer block that comes with block m, and one of `fewer` blocks has not.
+pub fn comes_with(m: usize, fewer: usize, more: usize) -> bool
+    ensures { result ≡ comes_with m fewer more }
 {
-    if a < 1036 {
-        return 0;
-    }
-    (a - 1036) / 1024
-}
-
-pub fn parts_to(b: usize) -> usize
-    requires { b ≤ 1048576 }
-    ensures { result ≡ parts_to b }
-{
-    if b < 1036 {
-        return 0;
-    }
-    (b - 1036 + 1023) / 1024
+    fewer < m && m <= more
 }

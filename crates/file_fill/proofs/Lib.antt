@@ -1,3 +1,4 @@
 pub mod FillBytes
 pub mod FileBytes
 pub mod Sound
+pub mod Fillers

@@ -1,209 +1,111 @@
-// Writing a file's bytes from a buffer, or zeros: three loops over block ranges, each pointer block looked up once.
+// Writing a file's bytes from a buffer, or zeros: what is done with the slots that `file_blocks::slots` goes over.
 #![tactic(auto)]
 
-ghost use Rattle.std.specs.Prelude.{◌≡◌, ◌+◌, ◌-◌, ◌*◌, ◌≤◌, ◌<◌, false, length};
-ghost use Rattle.file_blocks.specs.Inner.{RangeAsks, PieceAsks, RunAsks, PartAsks};
-ghost use Rattle.file_blocks.specs.Bytes.{put, piece_fill, run_fill, direct_fill, indirect_fill, level_fill, double_fill, filled};
+ghost use Rattle.std.specs.Prelude.{◌≡◌, ◌+◌, ◌-◌, ◌≤◌, false, refl, length};
+ghost use Rattle.file_blocks.specs.Inner.{RangeAsks};
+ghost use Rattle.file_blocks.specs.Bytes.{put, filled};
+ghost use Rattle.file_fill.specs.Source.{zeros, bytes};
 
 use card_layout::{BLKSIZE, BlockId, INodeId};
-use file_blocks::pieces;
-use words::order;
+use file_blocks::slots::Walk;
+use file_blocks::{pieces, slots};
+use words::Number;
 
-// k bytes at `at`: zeros, or those of src from `from` on.
-fn put_piece(image: &mut [u8], at: usize, k: usize, zeros: bool, src: &[u8], from: usize)
-    requires { (at + k ≤ length image.old) × (zeros ≡ false → from + k ≤ length src.now) }
-    ensures { image.new ≡ put zeros src.now at k from image.old }
+// k bytes at `at`: those of src from `from` on, or zeros.
+fn put_piece(image: &mut [u8], at: usize, k: usize, src: Option<&[u8]>, from: usize)
+    requires { (at + k ≤ length image.old) × (zeros src ≡ false → from + k ≤ length (bytes src)) }
+    ensures { image.new ≡ put (zeros src.entry) (bytes src.entry) at k from image.old }
 {
-    if zeros {
-        words::zero(image, at, k);
-        return;
-    }
-    words::copy(src, from, image, at, k);
-}
-
-// The piece of file block j, which is in block b.
-fn fill_piece(
-    image: &mut [u8],
-    nb: usize,
-    b: BlockId,
-    off: usize,
-    end: usize,
-    j: usize,
-    zeros: bool,
-    src: &[u8],
-)
-    requires { PieceAsks image.old nb off end j (zeros ≡ false → end - off ≤ length src.now) }
-    ensures { image.new ≡ piece_fill zeros src.now nb b.0 off end j image.old }
-{
-    let a = b.0 as usize;
-    if a >= nb {
-        return;
-    }
-    let lo = pieces::piece_lo(off, j);
-    let hi = pieces::piece_hi(end, j);
-    put_piece(
-        image,
-        BLKSIZE * a + lo,
-        hi - lo,
-        zeros,
-        src,
-        BLKSIZE * j + lo - off,
-    );
-}
-
-// The pieces of file blocks i up to e, whose numbers stand from byte `at` on.
-fn fill_run(
-    image: &mut [u8],
-    nb: usize,
-    at: usize,
-    i: usize,
-    e: usize,
-    off: usize,
-    end: usize,
-    zeros: bool,
-    src: &[u8],
-)
-    requires { RunAsks image.old nb at i e off end (zeros ≡ false → end - off ≤ length src.now) }
-    ensures { image.new ≡ run_fill zeros src.now nb at i e off end image.old }
-{
-    let mut j = i;
-    while j < e {
-        let b = BlockId(words::get32(image, at + 4 * (j - i)));
-        fill_piece(image, nb, b, off, end, j, zeros, src);
-        j += 1;
+    match src {
+        Some(s) => words::copy(s, from, image, at, k),
+        None => words::zero(image, at, k),
     }
 }
 
-fn fill_direct(
-    image: &mut [u8],
+// Fills the bytes off to end of a file, on a card of nb blocks. src stands behind a reference: of a struct that held the Option itself the proof would
+// not know which card it leaves.
+#[derive(Drop)]
+struct Filler<'a, 'b, 'c> {
+    image: &'a mut [u8],
     nb: usize,
-    n: INodeId,
     off: usize,
     end: usize,
-    zeros: bool,
-    src: &[u8],
-)
-    requires { RangeAsks image.old nb n.0 off end (zeros ≡ false → end - off ≤ length src.now) }
-    ensures { image.new ≡ direct_fill zeros src.now nb n.0 off end image.old }
-{
-    let i = order::least(pieces::first_of(off), 12);
-    let e = order::least(pieces::after_of(end), 12);
-    fill_run(
-        image,
-        nb,
-        BLKSIZE * n.0 as usize + 12 + 4 * i,
-        i,
-        e,
-        off,
-        end,
-        zeros,
-        src,
-    );
+    src: &'b Option<&'c [u8]>,
 }
 
-fn fill_indirect(
-    image: &mut [u8],
-    nb: usize,
-    n: INodeId,
-    off: usize,
-    end: usize,
-    zeros: bool,
-    src: &[u8],
-)
-    requires { RangeAsks image.old nb n.0 off end (zeros ≡ false → end - off ≤ length src.now) }
-    ensures { image.new ≡ indirect_fill zeros src.now nb n.0 off end image.old }
-{
-    let p = words::get32(image, BLKSIZE * n.0 as usize + 60) as usize;
-    if p >= nb {
-        return;
+impl<'a, 'b, 'c> Filler<'a, 'b, 'c> {
+    ghost use Rattle.file_fill.specs.Inner.{Piece, with_piece};
+
+    // The piece of file block j, which is in block b.
+    fn piece(&mut self, b: BlockId, j: usize)
+        requires { Piece self.old j }
+        ensures { self.new ≡ with_piece self.old b.0 j }
+    {
+        let a = b.0 as usize;
+        if a >= self.nb {
+            return;
+        }
+        let lo = pieces::piece_lo(self.off, j);
+        let hi = pieces::piece_hi(self.end, j);
+        put_piece(
+            self.image,
+            BLKSIZE * a + lo,
+            hi - lo,
+            *self.src,
+            BLKSIZE * j + lo - self.off,
+        );
     }
-    let i = pieces::clamp(12, 1036, pieces::first_of(off));
-    let e = pieces::clamp(12, 1036, pieces::after_of(end));
-    fill_run(
+}
+
+impl<'a, 'b, 'c> Walk for Filler<'a, 'b, 'c> {
+    ghost use Rattle.file_blocks.proofs.Ranges.{span_part, span_long};
+    ghost use Rattle.file_blocks.proofs.Lengths.{length-run_fill};
+    ghost use Rattle.file_fill.specs.Inner.{Span, over};
+
+    ghost card = { λ f. f.image.now };
+
+    ghost nb = { λ f. f.nb };
+
+    ghost Ready = { Span };
+
+    ghost turn = { over };
+
+    fn image(&self) -> &[u8] {
+        self.image
+    }
+
+    fn blocks(&self) -> usize {
+        self.nb
+    }
+
+    // No `run` of the trait's own over a step: that would take two more ghost members and a law, for three lines.
+    fn run(&mut self, at: usize, i: usize, e: usize) {
+        for j in i..e {
+            let b = BlockId(u32::get(self.image(), at + 4 * (j - i)));
+            self.piece(b, j);
+        }
+    }
+
+    ghost whole = { λ i e f s. s.0 };
+
+    ghost part = { λ i e j k f s h. span_part _ _ i e j k _ _ _ s h };
+
+    ghost stays = { λ at i e j k f s. span_long _ _ _ i e _ _ _ (length-run_fill (zeros f.src.now) (bytes f.src.now) f.nb f.off f.end at j k f.image.now) s };
+
+    ghost same_nb = { λ at i e f. refl };
+}
+
+// The bytes off to end of file n, on a card of nb blocks, become those of src, or zeros where there is none.
+pub fn fill_at(image: &mut [u8], nb: usize, n: INodeId, off: usize, end: usize, src: Option<&[u8]>)
+    requires { RangeAsks image.old nb n.0 off end (zeros src ≡ false → end - off ≤ length (bytes src)) }
+    ensures { image.new ≡ filled (zeros src.entry) (bytes src.entry) nb n.0 off end image.old }
+{
+    let mut filler = Filler {
         image,
         nb,
-        BLKSIZE * p + 4 * (i - 12),
-        i,
-        e,
         off,
         end,
-        zeros,
-        src,
-    );
-}
-
-// The blocks that second-level block q, which is block s, lists.
-fn fill_level(
-    image: &mut [u8],
-    nb: usize,
-    s: BlockId,
-    off: usize,
-    end: usize,
-    q: usize,
-    zeros: bool,
-    src: &[u8],
-)
-    requires { PartAsks image.old nb off end q (zeros ≡ false → end - off ≤ length src.now) }
-    ensures { image.new ≡ level_fill zeros src.now nb s.0 off end q image.old }
-{
-    let a = s.0 as usize;
-    if a >= nb {
-        return;
-    }
-    let i = pieces::level_from(off, q);
-    let e = pieces::level_to(end, q);
-    fill_run(
-        image,
-        nb,
-        BLKSIZE * a + 4 * (i - (1036 + 1024 * q)),
-        i,
-        e,
-        off,
-        end,
-        zeros,
-        src,
-    );
-}
-
-fn fill_double(
-    image: &mut [u8],
-    nb: usize,
-    n: INodeId,
-    off: usize,
-    end: usize,
-    zeros: bool,
-    src: &[u8],
-)
-    requires { RangeAsks image.old nb n.0 off end (zeros ≡ false → end - off ≤ length src.now) }
-    ensures { image.new ≡ double_fill zeros src.now nb n.0 off end image.old }
-{
-    let d = words::get32(image, BLKSIZE * n.0 as usize + 64) as usize;
-    if d >= nb {
-        return;
-    }
-    let e = pieces::levels_to(end);
-    let mut q = pieces::levels_from(off);
-    while q < e {
-        let s = BlockId(words::get32(image, BLKSIZE * d + 4 * q));
-        fill_level(image, nb, s, off, end, q, zeros, src);
-        q += 1;
-    }
-}
-
-// The bytes off to end of file n, on a card of nb blocks, become those of src, or zeros.
-pub fn fill_at(
-    image: &mut [u8],
-    nb: usize,
-    n: INodeId,
-    off: usize,
-    end: usize,
-    zeros: bool,
-    src: &[u8],
-)
-    requires { RangeAsks image.old nb n.0 off end (zeros ≡ false → end - off ≤ length src.now) }
-    ensures { image.new ≡ filled zeros src.now nb n.0 off end image.old }
-{
-    fill_direct(image, nb, n, off, end, zeros, src);
-    fill_indirect(image, nb, n, off, end, zeros, src);
-    fill_double(image, nb, n, off, end, zeros, src);
+        src: &src,
+    };
+    slots::file(&mut filler, n, pieces::first_of(off), pieces::after_of(end));
 }

@@ -1,3 +1,3 @@
-pub mod Following
+pub mod Growers
 pub mod Taken
 pub mod Runs

@@ -1,204 +1,163 @@
 // Growth: the blocks of a longer file are taken in RULES' order, each the lowest free one.
 #![tactic(auto)]
 
-ghost use Rattle.std.specs.Prelude.{◌≡◌, ◌+◌, ◌-◌, ◌*◌, ◌≤◌, ◌<◌, length};
-ghost use Rattle.card_layout.specs.Sizes.{most};
+ghost use Rattle.std.specs.Prelude.{◌≡◌, ◌+◌, ◌-◌, ◌*◌, ◌≤◌, ◌<◌, refl, length};
 ghost use Rattle.card_map.specs.Free.{taken};
-ghost use Rattle.file_blocks.specs.Taking.{next_free, grow_run, grow_indirect, grow_double, grow_level};
-ghost use Rattle.file_blocks.specs.Taking.{grow_direct, grow_single, grow_part, grow_twofold, grown};
-ghost use Rattle.file_grow.specs.Inner.{cursor_at, growing_at, Moved, Grew};
+ghost use Rattle.file_blocks.specs.Taking.{next_free, grown};
+ghost use Rattle.file_grow.specs.Inner.{growing_at, Grew};
 ghost use Rattle.file_blocks.specs.Inner.{Sizes};
 
 use card_layout::inode::DiskINode;
 use card_layout::{BLKSIZE, BlockId, slot};
-use card_map::FreeBlock;
-use file_blocks::pieces;
-use words::order;
+use file_blocks::slots::Walk;
+use file_blocks::{pieces, slots};
+use words::Number;
 
 // A record in the making, and the block from which the next search goes on.
-#[derive(Clone, Copy)]
+#[derive(Clone, Copy, Debug, PartialEq, Eq)]
 pub struct Took {
     pub inode: DiskINode,
     pub from: BlockId,
 }
 
-// Takes the next free block; 0 where there is none.
+// Takes the next free block; 0 where there is none, as `next_free` says, and no Option.
 pub fn take_next(image: &mut [u8], nb: u32, from: BlockId) -> BlockId
     requires { Sizes image.old nb × (from.0 ≤ nb) }
     ensures { (result.0 ≡ next_free nb image.old from.0) × (image.new ≡ taken image.old from.0 nb) }
 {
-    match card_map::alloc_block(image, from, nb) {
-        FreeBlock::At(b) => b,
-        FreeBlock::Nothing => BlockId(0),
-    }
+    card_map::alloc_block(image, from, nb).unwrap_or(BlockId(0))
 }
 
-// Takes k blocks, whose numbers go to the words from byte `at` on. Answers where the next search goes on.
-fn grow_run(image: &mut [u8], nb: u32, at: usize, k: usize, from: BlockId) -> BlockId
-    requires { Sizes image.old nb × (from.0 ≤ nb) × (at + 4 * k ≤ length image.old) }
-    ensures { Moved (grow_run nb at k (cursor_at image.old from)) image.new result }
-{
-    let mut f = from;
-    let mut j = 0;
-    while j < k {
-        let b = take_next(image, nb, f);
-        words::put32(image, at + 4 * j, b.0);
-        f = BlockId(b.0 + 1);
-        j += 1;
-    }
-    f
-}
-
-// The indirect block, if a file of b blocks has one and one of a blocks has not.
-fn grow_indirect(image: &mut [u8], nb: u32, a: usize, b: usize, t: Took) -> Took
-    requires { Sizes image.old nb × (t.from.0 ≤ nb) }
-    ensures { Grew (grow_indirect nb a b (growing_at image.old t)) image.new result }
-{
-    if a >= 12 {
-        return t;
-    }
-    if b < 12 {
-        return t;
-    }
-    let d = t.inode;
-    let x = take_next(image, nb, t.from);
-    Took {
-        inode: d.set_indirect(x),
-        from: BlockId(x.0 + 1),
-    }
-}
-
-// The double indirect block, likewise.
-fn grow_double(image: &mut [u8], nb: u32, a: usize, b: usize, t: Took) -> Took
-    requires { Sizes image.old nb × (t.from.0 ≤ nb) }
-    ensures { Grew (grow_double nb a b (growing_at image.old t)) image.new result }
-{
-    if a >= 1036 {
-        return t;
-    }
-    if b < 1036 {
-        return t;
-    }
-    let d = t.inode;
-    let x = take_next(image, nb, t.from);
-    Took {
-        inode: d.set_db_indirect(x),
-        from: BlockId(x.0 + 1),
-    }
-}
-
-// The second level, in rising order.
-fn grow_level(image: &mut [u8], nb: u32, a: usize, b: usize, t: Took) -> Took
-    requires { Sizes image.old nb × (t.from.0 ≤ nb) × (a ≤ b) × (b ≤ 1048576) }
-    ensures { Grew (grow_level nb a b (growing_at image.old t)) image.new result }
-{
-    let d = t.inode;
-    let p = d.head.db_indirect;
-    if p.0 >= nb {
-        return t;
-    }
-    let q = slot::seconds_of(a);
-    let e = slot::seconds_of(b);
-    let from = grow_run(image, nb, BLKSIZE * p.0 as usize + 4 * q, e - q, t.from);
-    Took { inode: d, from }
-}
-
-// The data blocks of the direct slots from a up to b.
-fn grow_direct(image: &mut [u8], nb: u32, a: usize, b: usize, t: Took) -> Took
-    requires { Sizes image.old nb × (t.from.0 ≤ nb) }
-    ensures { Grew (grow_direct nb a b (growing_at image.old t)) image.new result }
-{
-    let e = order::least(b, 12);
-    let mut d = t.inode;
-    let mut f = t.from;
-    let mut i = order::least(a, 12);
-    while i < e {
-        let x = take_next(image, nb, f);
-        d = d.set_direct(i, x);
-        f = BlockId(x.0 + 1);
-        i += 1;
-    }
-    Took { inode: d, from: f }
-}
-
-// The data blocks of the indirect slots from a up to b.
-fn grow_single(image: &mut [u8], nb: u32, a: usize, b: usize, t: Took) -> Took
-    requires { Sizes image.old nb × (t.from.0 ≤ nb) × (a ≤ b) }
-    ensures { Grew (grow_single nb a b (growing_at image.old t)) image.new result }
-{
-    let d = t.inode;
-    let p = d.head.indirect;
-    if p.0 >= nb {
-        return t;
-    }
-    let i = pieces::clamp(12, 1036, a);
-    let e = pieces::clamp(12, 1036, b);
-    let from = grow_run(
-        image,
-        nb,
-        BLKSIZE * p.0 as usize + 4 * (i - 12),
-        e - i,
-        t.from,
-    );
-    Took { inode: d, from }
-}
-
-// The data blocks that second-level block q, which is block s, lists, from a up to b.
-fn grow_part(
-    image: &mut [u8],
+// Takes blocks of a card of nb blocks. What it asks (`Fit`) is a clause of each step and no ghost field: what a step makes of it is said as the grower
+// with another card, and with the field that would be a grower for some cards alone.
+#[derive(Drop)]
+struct Grower<'a> {
+    image: &'a mut [u8],
     nb: u32,
-    s: BlockId,
-    a: usize,
-    b: usize,
-    q: usize,
+    inode: DiskINode,
     from: BlockId,
-) -> BlockId
-    requires { Sizes image.old nb × (from.0 ≤ nb) × (q < 1024) × (a ≤ 1036 + 1024 * q + 1024) × (1036 + 1024 * q ≤ b) × (a ≤ b) × (b ≤ 1048576) }
-    ensures { Moved (grow_part nb s.0 a b q (cursor_at image.old from)) image.new result }
-{
-    if s.0 >= nb {
-        return from;
-    }
-    let i = order::most(a, 1036 + 1024 * q);
-    let e = order::least(b, 1036 + 1024 * q + 1024);
-    grow_run(
-        image,
-        nb,
-        BLKSIZE * s.0 as usize + 4 * (i - (1036 + 1024 * q)),
-        e - i,
-        from,
-    )
 }
 
-// The data blocks of the double indirect slots from a up to b.
-fn grow_twofold(image: &mut [u8], nb: u32, a: usize, b: usize, t: Took) -> Took
-    requires { Sizes image.old nb × (t.from.0 ≤ nb) × (a ≤ b) × (b ≤ 1048576) }
-    ensures { Grew (grow_twofold nb a b (growing_at image.old t)) image.new result }
-{
-    let d = t.inode;
-    let p = d.head.db_indirect;
-    if p.0 >= nb {
-        return t;
+impl<'a> Grower<'a> {
+    ghost use Rattle.file_blocks.specs.Taking.{next_of, took_next, into_word, into_direct, grow_indirect, grow_double, grow_level, grow_direct};
+    ghost use Rattle.file_grow.specs.Inner.{Fit, cursor, growing, with_cursor, with_growing};
+
+    // The next free block; 0 where there is none.
+    fn take(&mut self) -> BlockId
+        requires { Fit self.old }
+        ensures took { self.new ≡ with_cursor self.old (took_next self.old.nb (cursor self.old)) }
+        ensures number { result.0 ≡ next_of self.old.nb (cursor self.old) }
+        ensures fit { Fit self.new }
+    {
+        let b = take_next(self.image, self.nb, self.from);
+        self.from = BlockId(b.0 + 1);
+        b
     }
-    let e = pieces::parts_to(b);
-    let mut f = t.from;
-    let mut q = pieces::parts_from(a);
-    while q < e {
-        let s = BlockId(words::get32(image, BLKSIZE * p.0 as usize + 4 * q));
-        f = grow_part(image, nb, s, a, b, q, f);
-        q += 1;
+
+    // Its number goes to the word at `at`.
+    fn into_word(&mut self, at: usize)
+        requires { Fit self.old × (at + 4 ≤ length self.old.image.now) }
+        ensures took { self.new ≡ with_cursor self.old (into_word self.old.nb at (cursor self.old)) }
+        ensures fit { Fit self.new }
+    {
+        let b = self.take();
+        b.0.put(self.image, at);
     }
-    Took { inode: d, from: f }
+
+    // Its number goes to direct slot i.
+    fn into_direct(&mut self, i: usize)
+        requires { Fit self.old × (i < 12) }
+        ensures took { self.new ≡ with_growing self.old (into_direct self.old.nb i (growing self.old)) }
+        ensures fit { Fit self.new }
+    {
+        let b = self.take();
+        self.inode = self.inode.set_direct(i, b);
+    }
+
+    // The indirect block, if a file of b blocks has one and one of a blocks has not.
+    fn grow_indirect(&mut self, a: usize, b: usize)
+        requires { Fit self.old }
+        ensures grew { self.new ≡ with_growing self.old (grow_indirect self.old.nb a b (growing self.old)) }
+        ensures fit { Fit self.new }
+    {
+        if pieces::comes_with(12, a, b) {
+            let x = self.take();
+            self.inode = self.inode.set_indirect(x);
+        }
+    }
+
+    // The double indirect block, likewise: a setter passed in, to make one of the two, would want a clause on what it sets.
+    fn grow_double(&mut self, a: usize, b: usize)
+        requires { Fit self.old }
+        ensures grew { self.new ≡ with_growing self.old (grow_double self.old.nb a b (growing self.old)) }
+        ensures fit { Fit self.new }
+    {
+        if pieces::comes_with(1036, a, b) {
+            let x = self.take();
+            self.inode = self.inode.set_db_indirect(x);
+        }
+    }
+
+    // The second level, in rising order.
+    fn grow_level(&mut self, a: usize, b: usize)
+        requires { Fit self.old × (a ≤ b) × (b ≤ 1048576) }
+        ensures grew { self.new ≡ with_growing self.old (grow_level self.old.nb a b (growing self.old)) }
+        ensures fit { Fit self.new }
+    {
+        let p = self.inode.head.db_indirect;
+        if p.0 >= self.nb {
+            return;
+        }
+        let q = slot::seconds_of(a);
+        let e = slot::seconds_of(b);
+        self.run(BLKSIZE * p.0 as usize + 4 * q, q, e);
+    }
+
+    // The data blocks of the direct slots from a up to b.
+    fn grow_direct(&mut self, a: usize, b: usize)
+        requires { Fit self.old }
+        ensures grew { self.new ≡ with_growing self.old (grow_direct self.old.nb a b (growing self.old)) }
+        ensures fit { Fit self.new }
+    {
+        for i in a.min(12)..b.min(12) {
+            self.into_direct(i);
+        }
+    }
 }
 
-// The data blocks from a up to b.
-fn grow_data(image: &mut [u8], nb: u32, a: usize, b: usize, t: Took) -> Took
-    requires { Sizes image.old nb × (t.from.0 ≤ nb) × (a ≤ b) × (b ≤ 1048576) }
-    ensures { Grew (grow_twofold nb a b (grow_single nb a b (grow_direct nb a b (growing_at image.old t)))) image.new result }
-{
-    let x = grow_direct(image, nb, a, b, t);
-    let y = grow_single(image, nb, a, b, x);
-    grow_twofold(image, nb, a, b, y)
+impl<'a> Walk for Grower<'a> {
+    ghost use Rattle.file_blocks.proofs.Growth.{run_fits};
+    ghost use Rattle.file_grow.specs.Inner.{Fit, cursor, over};
+
+    ghost card = { λ g. g.image.now };
+
+    ghost nb = { λ g. g.nb };
+
+    ghost Ready = { λ i e g. Fit g };
+
+    ghost turn = { over };
+
+    fn image(&self) -> &[u8] {
+        self.image
+    }
+
+    fn blocks(&self) -> usize {
+        self.nb as usize
+    }
+
+    fn run(&mut self, at: usize, i: usize, e: usize) {
+        for j in i..e {
+            self.into_word(at + 4 * (j - i));
+        }
+    }
+
+    ghost whole = { λ i e g s. s.0.long };
+
+    ghost part = { λ i e j k g s h. s };
+
+    ghost stays = { λ at i e j k g s. run_fits g.nb at (k - j) (cursor g) s.0 s.1 };
+
+    ghost same_nb = { λ at i e g. refl };
 }
 
 // All blocks that a file of b blocks has and one of a blocks has not, in RULES' order.
@@ -206,8 +165,22 @@ pub fn grow(image: &mut [u8], nb: u32, a: usize, b: usize, t: Took) -> Took
     requires { Sizes image.old nb × (t.from.0 ≤ nb) × (a ≤ b) × (b ≤ 1048576) }
     ensures { Grew (grown nb a b (growing_at image.old t)) image.new result }
 {
-    let x = grow_indirect(image, nb, a, b, t);
-    let y = grow_double(image, nb, a, b, x);
-    let z = grow_level(image, nb, a, b, y);
-    grow_data(image, nb, a, b, z)
+    let mut g = Grower {
+        image,
+        nb,
+        inode: t.inode,
+        from: t.from,
+    };
+    g.grow_indirect(a, b);
+    g.grow_double(a, b);
+    g.grow_level(a, b);
+    g.grow_direct(a, b);
+    let p = g.inode.head.indirect;
+    slots::indirect(&mut g, p, a, b);
+    let d = g.inode.head.db_indirect;
+    slots::double(&mut g, d, a, b);
+    Took {
+        inode: g.inode,
+        from: g.from,
+    }
 }

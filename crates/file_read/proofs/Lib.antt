@@ -1,1 +1,2 @@
 pub mod ReadBytes
+pub mod Readers

@@ -1,133 +1,99 @@
-// Reading a file's bytes into a buffer: three loops over block ranges, each pointer block looked up once.
+// Reading a file's bytes into a buffer: what is done with the slots that `file_blocks::slots` goes over.
 #![tactic(auto)]
 
-ghost use Rattle.std.specs.Prelude.{◌≡◌, ◌+◌, ◌-◌, ◌*◌, ◌≤◌, ◌<◌, length};
-ghost use Rattle.file_blocks.specs.Inner.{RangeAsks, PieceAsks, RunAsks, PartAsks};
-ghost use Rattle.file_blocks.specs.Bytes.{piece_read, run_read, direct_read, indirect_read, level_read, double_read, read_into};
+ghost use Rattle.std.specs.Prelude.{◌≡◌, ◌-◌, ◌≤◌, refl, length};
+ghost use Rattle.file_blocks.specs.Inner.{RangeAsks};
+ghost use Rattle.file_blocks.specs.Bytes.{read_into};
 
 use card_layout::{BLKSIZE, BlockId, INodeId};
-use file_blocks::pieces;
-use words::order;
+use file_blocks::slots::Walk;
+use file_blocks::{pieces, slots};
+use words::Number;
 
-// The piece of file block j, which is in block b.
-fn read_piece(image: &[u8], nb: usize, b: BlockId, off: usize, end: usize, j: usize, buf: &mut [u8])
-    requires { PieceAsks image.now nb off end j (end - off ≤ length buf.old) }
-    ensures { buf.new ≡ piece_read image.now nb b.0 off end j buf.old }
-{
-    let a = b.0 as usize;
-    if a >= nb {
-        return;
-    }
-    let lo = pieces::piece_lo(off, j);
-    let hi = pieces::piece_hi(end, j);
-    words::copy(
-        image,
-        BLKSIZE * a + lo,
-        buf,
-        BLKSIZE * j + lo - off,
-        hi - lo,
-    );
-}
-
-// The pieces of file blocks i up to e, whose numbers stand from byte `at` on.
-fn read_run(
-    image: &[u8],
+// Reads the bytes off to end of a file, on a card of nb blocks.
+#[derive(Drop)]
+struct Reader<'a, 'b> {
+    image: &'a [u8],
     nb: usize,
-    at: usize,
-    i: usize,
-    e: usize,
     off: usize,
     end: usize,
-    buf: &mut [u8],
-)
-    requires { RunAsks image.now nb at i e off end (end - off ≤ length buf.old) }
-    ensures { buf.new ≡ run_read image.now nb at i e off end buf.old }
-{
-    let mut j = i;
-    while j < e {
-        let b = BlockId(words::get32(image, at + 4 * (j - i)));
-        read_piece(image, nb, b, off, end, j, buf);
-        j += 1;
+    buf: &'b mut [u8],
+}
+
+impl<'a, 'b> Reader<'a, 'b> {
+    ghost use Rattle.file_read.specs.Inner.{Piece, with_piece};
+
+    // The piece of file block j, which is in block b.
+    fn piece(&mut self, b: BlockId, j: usize)
+        requires { Piece self.old j }
+        ensures { self.new ≡ with_piece self.old b.0 j }
+    {
+        let a = b.0 as usize;
+        if a >= self.nb {
+            return;
+        }
+        let lo = pieces::piece_lo(self.off, j);
+        let hi = pieces::piece_hi(self.end, j);
+        words::copy(
+            self.image,
+            BLKSIZE * a + lo,
+            self.buf,
+            BLKSIZE * j + lo - self.off,
+            hi - lo,
+        );
     }
 }
 
-fn read_direct(image: &[u8], nb: usize, n: INodeId, off: usize, end: usize, buf: &mut [u8])
-    requires { RangeAsks image.now nb n.0 off end (end - off ≤ length buf.old) }
-    ensures { buf.new ≡ direct_read image.now nb n.0 off end buf.old }
-{
-    let i = order::least(pieces::first_of(off), 12);
-    let e = order::least(pieces::after_of(end), 12);
-    read_run(
-        image,
-        nb,
-        BLKSIZE * n.0 as usize + 12 + 4 * i,
-        i,
-        e,
-        off,
-        end,
-        buf,
-    );
-}
+impl<'a, 'b> Walk for Reader<'a, 'b> {
+    ghost use Rattle.file_blocks.proofs.Ranges.{span_part, same_room};
+    ghost use Rattle.file_blocks.proofs.Lengths.{length-run_read};
+    ghost use Rattle.file_read.specs.Inner.{Span, over};
 
-fn read_indirect(image: &[u8], nb: usize, n: INodeId, off: usize, end: usize, buf: &mut [u8])
-    requires { RangeAsks image.now nb n.0 off end (end - off ≤ length buf.old) }
-    ensures { buf.new ≡ indirect_read image.now nb n.0 off end buf.old }
-{
-    let p = words::get32(image, BLKSIZE * n.0 as usize + 60) as usize;
-    if p >= nb {
-        return;
-    }
-    let i = pieces::clamp(12, 1036, pieces::first_of(off));
-    let e = pieces::clamp(12, 1036, pieces::after_of(end));
-    read_run(image, nb, BLKSIZE * p + 4 * (i - 12), i, e, off, end, buf);
-}
+    ghost card = { λ r. r.image.now };
 
-// The blocks that second-level block q, which is block s, lists.
-fn read_level(image: &[u8], nb: usize, s: BlockId, off: usize, end: usize, q: usize, buf: &mut [u8])
-    requires { PartAsks image.now nb off end q (end - off ≤ length buf.old) }
-    ensures { buf.new ≡ level_read image.now nb s.0 off end q buf.old }
-{
-    let a = s.0 as usize;
-    if a >= nb {
-        return;
-    }
-    let i = pieces::level_from(off, q);
-    let e = pieces::level_to(end, q);
-    read_run(
-        image,
-        nb,
-        BLKSIZE * a + 4 * (i - (1036 + 1024 * q)),
-        i,
-        e,
-        off,
-        end,
-        buf,
-    );
-}
+    ghost nb = { λ r. r.nb };
 
-fn read_double(image: &[u8], nb: usize, n: INodeId, off: usize, end: usize, buf: &mut [u8])
-    requires { RangeAsks image.now nb n.0 off end (end - off ≤ length buf.old) }
-    ensures { buf.new ≡ double_read image.now nb n.0 off end buf.old }
-{
-    let d = words::get32(image, BLKSIZE * n.0 as usize + 64) as usize;
-    if d >= nb {
-        return;
+    ghost Ready = { Span };
+
+    ghost turn = { over };
+
+    fn image(&self) -> &[u8] {
+        self.image
     }
-    let e = pieces::levels_to(end);
-    let mut q = pieces::levels_from(off);
-    while q < e {
-        let s = BlockId(words::get32(image, BLKSIZE * d + 4 * q));
-        read_level(image, nb, s, off, end, q, buf);
-        q += 1;
+
+    fn blocks(&self) -> usize {
+        self.nb
     }
+
+    // No `run` of the trait's own over a step: that would take two more ghost members and a law, for three lines.
+    fn run(&mut self, at: usize, i: usize, e: usize) {
+        for j in i..e {
+            let b = BlockId(u32::get(self.image, at + 4 * (j - i)));
+            self.piece(b, j);
+        }
+    }
+
+    ghost whole = { λ i e r s. s.0 };
+
+    ghost part = { λ i e j k r s h. span_part _ _ i e j k _ _ _ s h };
+
+    ghost stays = { λ at i e j k r s. (s.0, s.1, s.2, s.3, same_room _ _ _ (length-run_read r.image.now r.nb r.off r.end at j k r.buf.now) s.4) };
+
+    ghost same_nb = { λ at i e r. refl };
 }
 
 // The bytes off to end of file n, on a card of nb blocks.
+#[tactic(auto, using(crate::proofs::Readers::reads))]
 pub fn read_at(image: &[u8], nb: usize, n: INodeId, off: usize, end: usize, buf: &mut [u8])
     requires { RangeAsks image.now nb n.0 off end (end - off ≤ length buf.old) }
     ensures { buf.new ≡ read_into image.now nb n.0 off end buf.old }
 {
-    read_direct(image, nb, n, off, end, buf);
-    read_indirect(image, nb, n, off, end, buf);
-    read_double(image, nb, n, off, end, buf);
+    let mut reader = Reader {
+        image,
+        nb,
+        off,
+        end,
+        buf,
+    };
+    slots::file(&mut reader, n, pieces::first_of(off), pieces::after_of(end));
 }

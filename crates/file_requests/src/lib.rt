@@ -3,13 +3,3 @@
 
 pub mod requests;
 pub mod resizing;
-
-// The answer to a call on a file: that it is done, how many bytes it has read or written, or one of RULES' refusals 5, 12 and 14.
-#[derive(Clone, Copy)]
-pub enum Filed {
-    Done,
-    Count(u32),
-    NotFile,
-    InvalidParam,
-    NoDeviceSpace,
-}

@@ -1,4 +1,5 @@
-// The act of a length change, of an inode of any kind: d is the record of inode n as the card has it, nb the card's block count.
+// The act of a length change, of an inode of any kind: d is the record of inode n as the card has it, nb the card's block count. They are no struct with
+// methods: the crates above call single steps, and each would make one for a single call.
 ghost use Rattle.std.specs.Prelude.{◌≡◌, ◌*◌, ◌≤◌, ◌<◌, length};
 ghost use Rattle.card_layout.specs.Sizes.{blocks_for, block_size};
 ghost use Rattle.file_blocks.specs.Inner.{Sizes};
@@ -11,7 +12,6 @@ use file_fill;
 use file_grow;
 use file_grow::Took;
 use file_shrink;
-use words::order;
 
 pub fn blocks_for(len: usize) -> usize
     requires { len ≤ 4294967295 }
@@ -34,8 +34,7 @@ fn clean_at(image: &mut [u8], nb: usize, n: INodeId, off: usize, end: usize)
     requires { (block_size * nb ≤ length image.old) × (n.0 < nb) × (off ≤ end) × (end ≤ 4294967295) }
     ensures { image.new ≡ cleaned nb n.0 off end image.old }
 {
-    let none: [u8; 0] = [];
-    file_fill::fill_at(image, nb, n, off, end, true, &none);
+    file_fill::fill_at(image, nb, n, off, end, None);
 }
 
 // What is new of a longer file: its bytes from the old size, which d has, up to z, and no others.
@@ -69,7 +68,7 @@ fn take_for(image: &mut [u8], nb: u32, n: INodeId, d: DiskINode, len: u32)
 pub fn file_blocks(d: DiskINode) -> usize
     ensures { result ≡ file_blocks d }
 {
-    order::least(d.head.blocks as usize, 1048576)
+    (d.head.blocks as usize).min(1048576)
 }
 
 // It gets less: blocks are freed, and no byte is zeroed.

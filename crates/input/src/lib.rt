@@ -25,6 +25,7 @@ pub fn read_full<R: Read>(from: &mut R, into: &mut [u8]) -> io::Result<usize>
     ensures end { IfOk result (λ n. n < length into.new → IsAtEnd (R.remaining from.new)) }
 {
     let mut done = 0;
+    // No `for`: each read puts as many bytes as the reader has.
     while done < into.len() {
         let n = read_at(from, into, done)?;
         if n == 0 {

@@ -14,14 +14,11 @@ use Rattle.card_layout.specs.Inode.{kind, head_at, head_by, decoded}
 use Rattle.card_layout.specs.declared.inode.FileType.{FileType}
 use Rattle.card_layout.specs.declared.inode.FileType.TheVariants.{File, Dir, SymLink}
 use Rattle.card_layout.specs.declared.inode.Head.{Head}
-use Rattle.card_layout.specs.declared.inode.Decoded.{Decoded}
-use Rattle.card_layout.specs.declared.inode.Decoded.TheVariants.{Good, BadKind}
-use Rattle.file_requests.specs.Requests.{filed_no, by_file, on_done}
-use Rattle.file_requests.specs.declared.Filed.{Filed}
-use Rattle.file_requests.specs.declared.Filed.TheVariants as F
-use Rattle.dir_answers.specs.Answers.{acted_no, if_done, of_head}
-use Rattle.dir_answers.specs.declared.Acted.{Acted}
-use Rattle.dir_answers.specs.declared.Acted.TheVariants as A
+use Rattle.file_requests.specs.Requests.{by_file}
+use Rattle.dir_answers.specs.Answers.{of_head}
+use Rattle.refusals.specs.Refusals.{answer_no, if_done}
+use Rattle.refusals.specs.declared.Refusal.{Refusal}
+use Rattle.std.specs.Prelude.{Option, Some, None, Ok, Err, Result}
 
 -- one of two, where the test is known to hold for the first
 pub both_below : {A : Type 0} (R : A → A → Type 0) (a b : ℕ) (x y x' y' : A) → (a < b → R x y) → R x' y' → R (pick (ltb a b) x x') (pick (ltb a b) y y')
@@ -41,31 +38,15 @@ unfolding turns
 both_turns R f g i x y r zero h = r
 both_turns R f g i x y r (suc k) h = h k _ _ (omega arith) (both_turns R f g i x y r k (λ j u v l q. h j u v (omega arith) q))
 
-pub both_if : {A : Type 0} (R : A → A → Type 0) (a : Acted) (x y r s : A) → (acted_no a ≡ 0 → R x y) → R r s → R (if_done a x r) (if_done a y s)
-both_if R A.Done x y r s p q = p refl
-both_if R (A.Inode n) x y r s p q = p refl
-both_if R A.NotDir x y r s p q = q
-both_if R A.IsDir x y r s p q = q
-both_if R A.BadName x y r s p q = q
-both_if R A.EntryExist x y r s p q = q
-both_if R A.EntryNotFound x y r s p q = q
-both_if R A.DirNotEmpty x y r s p q = q
-both_if R A.InvalidParam x y r s p q = q
-both_if R A.TooManyLinks x y r s p q = q
-both_if R A.NoDeviceSpace x y r s p q = q
-
-pub both_done : {A : Type 0} (R : A → A → Type 0) (f : Filed) (x y r s : A) → (filed_no f ≡ 0 → R x y) → R r s → R (on_done f x r) (on_done f y s)
-both_done R F.Done x y r s p q = p refl
-both_done R (F.Count k) x y r s p q = p refl
-both_done R F.NotFile x y r s p q = q
-both_done R F.InvalidParam x y r s p q = q
-both_done R F.NoDeviceSpace x y r s p q = q
+pub both_if : {A B : Type 0} (R : A → A → Type 0) (a : Result B Refusal) (x y r s : A) → (answer_no a ≡ 0 → R x y) → R r s → R (if_done a x r) (if_done a y s)
+both_if R (Ok v) x y r s p q = p refl
+both_if R (Err e) x y r s p q = q
 
 -- whatever kind the record is of
 module _ {A : Type 0} (R : A → A → Type 0) (img : List ℕ) (n : ℕ) (r s : A) (f g : Head → A)
     (p : (k : FileType) → R (f (head_at img n k)) (g (head_at img n k))) (q : R r s) where
-  abbrev choice : Bool → Bool → Bool → Decoded
-  choice a b c = pick a (Good (head_at img n File)) (pick b (Good (head_at img n Dir)) (pick c (Good (head_at img n SymLink)) BadKind))
+  abbrev choice : Bool → Bool → Bool → Option Head
+  choice a b c = pick a (Some (head_at img n File)) (pick b (Some (head_at img n Dir)) (pick c (Some (head_at img n SymLink)) None))
 
   pub both_head : R (of_head (decoded img n) r f) (of_head (decoded img n) s g)
   unfolding head_by

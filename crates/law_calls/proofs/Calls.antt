@@ -1,11 +1,12 @@
 -- One public call on a file, whatever its scratch: it does what its definition says on an open card, and nothing on one that is not. Assumes nothing.
-use mathlib.Core.Path.{◌≡◌, refl, sym, ap, ◌∙◌}
+use mathlib.Core.Path.{◌≡◌, refl, sym, ◌∙◌}
 use mathlib.Core.Logic.{◌≢◌}
 use mathlib.Core.List.{List}
 use Prim.Native.Nat.{ℕ, ◌+◌, ◌*◌, ◌≤◌, ◌<◌}
 use native.Mathlib.Omega.{arith}
 use borrow.Author.Tests.{ne_eqb}
 use lib.ListN.{length}
+use Rattle.std.proofs.lemmas.Grind.{common_steps}
 use Rattle.words.specs.Words.{Bytes}
 use Rattle.words.specs.Sums.{cnt}
 use Rattle.card_layout.specs.Sizes.{blocks_for}
@@ -15,16 +16,10 @@ use Rattle.card_layout.specs.Slots.{owned}
 use Rattle.card_rules.specs.Whole.{Reached, Sound, Tree, Whole}
 use Rattle.card_rules.specs.Same.{SameFile}
 use Rattle.card_rules.proofs.Frames.{file_refl}
-use Rattle.check_walk.specs.declared.Opened.{Opened}
-use Rattle.check_walk.specs.declared.Opened.TheVariants.{Open, ScratchShort, WrongFs, Damaged, NoInode}
-use Rattle.check_walk.specs.Opening.{Opening, whole, no_inode, damaged, scratch_short, wrong_fs, unsized}
-use Rattle.file_requests.specs.Requests.{longest, filed_no, write_answer, write_card, read_answer, resize_answer, resize_card}
-use Rattle.file_requests.specs.declared.Filed.{Filed}
-use Rattle.file_requests.specs.declared.Filed.TheVariants as F
-use Rattle.call_said.specs.Said.{said_no, if_open, of_opened, of_filed}
+use Rattle.check_walk.specs.Opening.{Opened, Opening}
+use Rattle.file_requests.specs.Requests.{longest, write_answer, write_card, read_answer, resize_answer, resize_card}
+use Rattle.call_said.specs.Said.{of_opened, plain, Said}
 use Rattle.call_files.specs.FileCalls.{Resized}
-use Rattle.call_said.specs.declared.Said.{Said}
-use Rattle.call_said.proofs.Opened.{ready}
 use Rattle.law_files.specs.Requests.{Request, reading, writing, resizing, named, OfBytes}
 use Rattle.law_files.specs.Inner.{answered, after, written}
 use Rattle.law_calls.specs.Calls.{Called, read, write, resize}
@@ -33,37 +28,31 @@ use Rattle.law_calls.specs.Runs.{put}
 use Rattle.law_files.proofs.Steps.{Step, step_none}
 use Rattle.law_files.proofs.Writing.{step}
 use Rattle.law_files.proofs.Files.{refused_exactly}
+use Rattle.refusals.specs.Refusals.{answer_no, if_done}
+use Rattle.std.specs.Prelude.{Ok, Err}
+use Rattle.refusals.proofs.Refused.{giving_no}
 
 -- ---- what a call comes to
 
 pub data Outcome (l img img' : List ℕ) (q : Request) (r : Said) : Type 0 where
-  stays : img' ≡ img → said_no r ≢ 0 → Outcome l img img' q r
-  acts : img' ≡ after l img q → said_no r ≡ answered l img q → Outcome l img img' q r
+  stays : img' ≡ img → answer_no r ≢ 0 → Outcome l img img' q r
+  acts : img' ≡ after l img q → answer_no r ≡ answered l img q → Outcome l img img' q r
 
-pub said_filed : (f : Filed) → said_no (of_filed f) ≡ filed_no f
-said_filed F.Done = refl
-said_filed (F.Count k) = refl
-said_filed F.NotFile = refl
-said_filed F.InvalidParam = refl
-said_filed F.NoDeviceSpace = refl
+-- f is what the call says of an open card, and `out` what it leaves then
+module _ {l img img' s s' : List ℕ} (t : Tree img l) (n : ℕ) (q : Request) (f : Said) (out : List ℕ)
+    (card : cnt n l ≢ 0 → after l img q ≡ out) (number : cnt n l ≢ 0 → answered l img q ≡ answer_no f) where
+  outcome : (o : Opened) → Opening img s s' n n o → (r : Said) → r ≡ if_done o f (of_opened o) → img' ≡ if_done o out img → Outcome l img img' q r
+  outcome t₁ x r e i = grind (arith, common_steps)
 
-module _ {l img img' s s' : List ℕ} (t : Tree img l) (n : ℕ) (q : Request) (f : Filed) (out : List ℕ)
-    (card : cnt n l ≢ 0 → after l img q ≡ out) (number : cnt n l ≢ 0 → answered l img q ≡ filed_no f) where
-  outcome : (o : Opened) → Opening img s s' n n o → (r : Said) → r ≡ if_open o (of_filed f) (of_opened o) → img' ≡ if_open o out img → Outcome l img img' q r
-  outcome (Open c) x r e i =
-      let m : cnt n l ≢ 0 = λ z. omega (arith, t.all n (ready c x refl).first) in
-      acts (i ∙ sym (card m)) (ap said_no e ∙ said_filed f ∙ sym (number m))
-  outcome ScratchShort x r e i = stays i (rw e (λ z. omega arith))
-  outcome WrongFs x r e i = stays i (rw e (λ z. omega arith))
-  outcome Damaged x r e i = stays i (rw e (λ z. omega arith))
-  outcome NoInode x r e i = stays i (rw e (λ z. omega arith))
+-- the check says no more than that the card is open
+pub open_said : (o : Opened) → of_opened o ≡ if_done o (Ok 0) (of_opened o)
+open_said (Ok c) = refl
+open_said (Err v) = refl
 
-pub same_either : (o : Opened) (x : List ℕ) → if_open o x x ≡ x
-same_either (Open c) x = refl
-same_either ScratchShort x = refl
-same_either WrongFs x = refl
-same_either Damaged x = refl
-same_either NoInode x = refl
+-- a card that is only read is the same whether it was opened or not
+pub same_either : {A : Type 0} (o : Opened) (x : A) → if_done o x x ≡ x
+same_either (Ok c) x = refl
+same_either (Err v) x = refl
 
 pub called : {l img img' : List ℕ} {q : Request} {r : Said} → Tree img l → Called img img' q r → Outcome l img img' q r
 called {l} {img} {img'} t (read s s' buf buf' n off r c e) =
@@ -73,8 +62,8 @@ called {l} {img} {img'} t (write s s' src n off r c) =
     outcome t n (writing n off src) (write_answer img n off src) (write_card (blocks img) img n off src)
     (λ m. rw (ne_eqb (cnt n l) 0 m)) (λ m. rw (ne_eqb (cnt n l) 0 m)) c.opened c.opening r c.said c.image
 called {l} {img} {img'} t (resize s s' n len r c) =
-    outcome t n (resizing n len) (resize_answer img n len) (resize_card (blocks img) img n len)
-    (λ m. rw (ne_eqb (cnt n l) 0 m)) (λ m. rw (ne_eqb (cnt n l) 0 m)) c.opened c.opening r c.said c.image
+    outcome t n (resizing n len) (plain (resize_answer img n len)) (resize_card (blocks img) img n len)
+    (λ m. rw (ne_eqb (cnt n l) 0 m)) (λ m. rw (ne_eqb (cnt n l) 0 m) (sym (giving_no (resize_answer img n len) 0))) c.opened c.opening r c.said c.image
 
 -- ---- the step that it takes
 
@@ -84,15 +73,11 @@ pub record CallStep (l img img' : List ℕ) (q : Request) (r : Said) : Type 0 wh
   pub taken : Step l img img' request
   pub puts : (n o v : ℕ) → written l img request n o v ≡ put (file q) r n o v
 
-refused_puts : (q : Request) (r : Said) → said_no r ≢ 0 → (n o v : ℕ) → v ≡ put (file q) r n o v
-refused_puts (reading m off k) r d n o v = refl
-refused_puts (writing m off src) r d n o v = rw (ne_eqb (said_no r) 0 d)
-refused_puts (resizing m len) r d n o v = refl
+refused_puts : (q : Request) (r : Said) → answer_no r ≢ 0 → (n o v : ℕ) → v ≡ put (file q) r n o v
+refused_puts t₁ r d n o v = grind (arith, common_steps)
 
-done_puts : (l img : List ℕ) (q : Request) (r : Said) → said_no r ≡ answered l img q → (n o v : ℕ) → written l img q n o v ≡ put (file q) r n o v
-done_puts l img (reading m off k) r e n o v = refl
-done_puts l img (writing m off src) r e n o v = rw (← e)
-done_puts l img (resizing m len) r e n o v = refl
+done_puts : (l img : List ℕ) (q : Request) (r : Said) → answer_no r ≡ answered l img q → (n o v : ℕ) → written l img q n o v ≡ put (file q) r n o v
+done_puts l img t₁ r e n o v = grind (arith, common_steps)
 
 module _ {l img img' : List ℕ} (s : Sound img l) (t : Tree img l) (b : Bytes img) {q : Request} {r : Said} (c : OfBytes q) where
   pub call_step : Called img img' q r → CallStep l img img' q r
@@ -120,22 +105,9 @@ module _ {l img img' : List ℕ} (s : Sound img l) (t : Tree img l) (b : Bytes i
 -- with scratch enough, "a length change is refused exactly if too long or short of free blocks by RULES' count"
 module _ {img : List ℕ} (w : Whole img) (n : ℕ) (h : Reached img n) (d : kind img n ≢ 2) {img' s s' : List ℕ} (len : ℕ) {r : Said}
     (enough : 4 * blocks img ≤ length s) (c : Resized img img' s s' n len r) where
-  said_is : said_no r ≡ filed_no (resize_answer img n len)
-  said_is = go c.opening
-    where
-      by : {o : Opened} → c.opened ≡ o → r ≡ if_open o (of_filed (resize_answer img n len)) (of_opened o)
-      by e = c.said ∙ ap (λ (x : Opened). if_open x (of_filed (resize_answer img n len)) (of_opened x)) e
+  said_is : answer_no r ≡ answer_no (resize_answer img n len)
+  said_is = grind (arith, common_steps)
 
-      go : Opening img s s' n n c.opened → said_no r ≡ filed_no (resize_answer img n len)
-      go (whole _ _ _ _ e _) = ap said_no (by e) ∙ said_filed (resize_answer img n len)
-      go (no_inode _ _ x _ _) = absurd (x h h)
-      go (damaged _ _ x _ _) = absurd (x w)
-      go (scratch_short _ l _ _) = absurd (omega arith)
-      go (wrong_fs _ x _ _) = absurd (x w.sound.sized.magic_right)
-      go (unsized _ x _ _) = absurd (x w.sound.sized)
-
-  pub resize_refused_exactly : (said_no r ≡ 0 → (len ≤ longest) × (owned (blocks_for len) ≤ owned (count img n) + unused img))
-      × (len ≤ longest → owned (blocks_for len) ≤ owned (count img n) + unused img → said_no r ≡ 0)
-  resize_refused_exactly =
-      let x = refused_exactly w n h d len in
-      (λ e. x.0 (sym said_is ∙ e), λ a b. said_is ∙ x.1 a b)
+  pub resize_refused_exactly : (answer_no r ≡ 0 → (len ≤ longest) × (owned (blocks_for len) ≤ owned (count img n) + unused img))
+      × (len ≤ longest → owned (blocks_for len) ≤ owned (count img n) + unused img → answer_no r ≡ 0)
+  resize_refused_exactly = grind (arith, common_steps, refused_exactly, said_is)

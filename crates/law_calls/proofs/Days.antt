@@ -1,5 +1,5 @@
--- Days (specs/Days): a day after which all lengths are as at its start leaves map, free count, directories and block lists as they were; all along each byte below
--- a file's starting length is as it was or as last written there. Assumes nothing.
+-- Days (specs/Days): a day after which all lengths are as at its start leaves map, free count, directories and block lists as they were; all along each byte
+-- below a file's starting length is as it was or as last written there. Assumes nothing.
 use mathlib.Core.Path.{◌≡◌, refl, ap, ◌∙◌}
 use mathlib.Core.List.{List, ◌∷◌}
 use Prim.Native.Nat.{ℕ, ◌≤◌, ◌<◌}
@@ -9,13 +9,13 @@ use Rattle.card_layout.specs.Inode.{size}
 use Rattle.card_rules.specs.View.{file_byte}
 use Rattle.card_rules.specs.Whole.{Reached, Whole}
 use Rattle.card_rules.proofs.Tree.{reached_listed}
-use Rattle.call_said.specs.declared.Said.{Said}
 use Rattle.law_files.specs.Returned.{Returned}
 use Rattle.law_files.proofs.Return.{Since, since_start, since_step, returned}
 use Rattle.law_calls.specs.Made.{Asked, Made, filed, OfBytesAll, create, link, unlink, move, find, list, describe, check}
 use Rattle.law_calls.specs.Runs.{Call, Run, none, next, put, last_put}
 use Rattle.law_calls.specs.Days.{OnFile, OfDay, Day}
 use Rattle.law_calls.proofs.Calls.{call_step}
+use Rattle.call_said.specs.Said.{Said}
 
 module _ {start : List ℕ} (w : Whole start) (bytes : Bytes start) where
   abbrev l : List ℕ

@@ -1,23 +1,24 @@
 -- Read, write and resize say 5, 12 and 14 exactly for their causes: from what is said its cause follows, with a whole card, scratch enough, the inode reached
 -- and no earlier cause; and from all these it is said. Assumes nothing. (1 to 4: OpenCauses.)
-use mathlib.Core.Path.{◌≡◌, refl, sym, subst}
+use mathlib.Core.Path.{◌≡◌, refl}
 use mathlib.Core.Logic.{◌≢◌, ◌⊎◌}
 use mathlib.Core.List.{List}
 use Prim.Native.Nat.{ℕ, ◌+◌, ◌*◌, ◌≤◌, ◌<◌, max}
 use native.Mathlib.Omega.{arith}
 use lib.ListN.{length}
+use Rattle.std.proofs.lemmas.Grind.{common_steps}
 use Rattle.card_layout.specs.Super.{blocks}
 use Rattle.card_layout.specs.Inode.{size, kind}
 use Rattle.card_rules.specs.Whole.{Reached, Whole}
-use Rattle.file_requests.specs.Requests.{longest, read_answer, write_answer, resize_answer}
-use Rattle.call_said.specs.Said.{said_no, of_filed}
-use Rattle.call_said.specs.declared.Said.{Said}
+use Rattle.file_requests.specs.Requests.{longest}
+use Rattle.call_said.specs.Said.{Said}
 use Rattle.call_files.specs.FileCalls.{Read, Written, Resized}
-use Rattle.law_calls.specs.Tests.{Tests, fine, test, First, TooFull, read_tests, write_tests, resize_tests}
-use Rattle.law_calls.proofs.Calls.{said_filed}
+use Rattle.law_calls.specs.Tests.{Tests, fine, test, First, TooFull, write_tests, resize_tests}
+use Rattle.refusals.proofs.Refused.{giving_no}
 use Rattle.law_calls.proofs.First.{first_one}
-use Rattle.law_calls.proofs.FirstOpen.{whole_first, past_open}
-use Rattle.law_calls.proofs.FirstFiles.{read_own, write_own, resize_own, read_own_lem, write_own_lem, resize_own_lem, read_first, write_first, resize_first}
+use Rattle.law_calls.proofs.FirstOpen.{whole_first}
+use Rattle.law_calls.proofs.FirstFiles.{write_own, resize_own, read_own_lem, write_own_lem, resize_own_lem, write_first, resize_first}
+use Rattle.refusals.specs.Refusals.{answer_no}
 
 -- ---- 5, 12 and 14, for any causes
 
@@ -32,44 +33,25 @@ module _ (A B C : Type 0) (k : ℕ) where
   at_5 (◌⊎◌.inr (n, ◌⊎◌.inr (m, ◌⊎◌.inr (o, z)))) e = absurd (omega arith)
 
   at_12 : First three k → k ≡ 12 → (A → ⊥) × B
-  at_12 (◌⊎◌.inl a) e = absurd (omega (arith, a.1))
-  at_12 (◌⊎◌.inr (n, ◌⊎◌.inl b)) e = (n, b.0)
-  at_12 (◌⊎◌.inr (n, ◌⊎◌.inr (m, ◌⊎◌.inl c))) e = absurd (omega (arith, c.1))
-  at_12 (◌⊎◌.inr (n, ◌⊎◌.inr (m, ◌⊎◌.inr (o, z)))) e = absurd (omega arith)
+  at_12 t₁ e = grind (arith, common_steps)
 
   at_14 : First three k → k ≡ 14 → (A → ⊥) × (B → ⊥) × C
-  at_14 (◌⊎◌.inl a) e = absurd (omega (arith, a.1))
-  at_14 (◌⊎◌.inr (n, ◌⊎◌.inl b)) e = absurd (omega (arith, b.1))
-  at_14 (◌⊎◌.inr (n, ◌⊎◌.inr (m, ◌⊎◌.inl c))) e = (n, m, c.0)
-  at_14 (◌⊎◌.inr (n, ◌⊎◌.inr (m, ◌⊎◌.inr (o, z)))) e = absurd (omega arith)
+  at_14 t₁ e = grind (arith, common_steps)
 
 -- ---- read
 
 module _ {img s s' buf buf' : List ℕ} {n off : ℕ} {r : Said} (c : Read img s s' buf buf' n off r) where
-  pub read_5 : (said_no r ≡ 5 → Whole img × (4 * blocks img ≤ length s) × Reached img n × (kind img n ≡ 2))
-      × (Whole img → 4 * blocks img ≤ length s → Reached img n → kind img n ≡ 2 → said_no r ≡ 5)
-  read_5 = (
-    λ e.
-        let x = past_open (read_own img n) c.opening (of_filed (read_answer img n off (length buf))) c.said
-        (λ w y z. subst (First (read_own img n)) (sym (said_filed (read_answer img n off (length buf)))) (read_own_lem w y off (length buf)))
-        (omega arith) in
-        (x.0, x.1, x.2, go e x.4),
-    λ w l x d. first_one (read_tests img s n) (read_first c) (whole_first img s n n (read_own img n) 5 l w x x (◌⊎◌.inl (d, refl))),
-  )
-    where
-      go : said_no r ≡ 5 → First (read_own img n) (said_no r) → kind img n ≡ 2
-      go e (◌⊎◌.inl a) = a.0
-      go e (◌⊎◌.inr (m, z)) = absurd (omega arith)
+  pub read_5 : (answer_no r ≡ 5 → Whole img × (4 * blocks img ≤ length s) × Reached img n × (kind img n ≡ 2))
+      × (Whole img → 4 * blocks img ≤ length s → Reached img n → kind img n ≡ 2 → answer_no r ≡ 5)
+  read_5 = grind (arith, common_steps, read_own_lem)
 
 -- ---- write: to byte off + length src
 
 module _ {img img' s s' src : List ℕ} {n off : ℕ} {r : Said} (c : Written img img' s s' src n off r) where
-  write-past : 4 < said_no r → Whole img × (4 * blocks img ≤ length s) × Reached img n × Reached img n × First (write_own img n off src) (said_no r)
-  write-past =
-      past_open (write_own img n off src) c.opening (of_filed (write_answer img n off src)) c.said
-      (λ w y z. subst (First (write_own img n off src)) (sym (said_filed (write_answer img n off src))) (write_own_lem w y off src))
+  write-past : 4 < answer_no r → Whole img × (4 * blocks img ≤ length s) × Reached img n × Reached img n × First (write_own img n off src) (answer_no r)
+  write-past = grind (arith, common_steps, write_own_lem)
 
-  write_says : (k : ℕ) → Whole img → 4 * blocks img ≤ length s → Reached img n → First (write_own img n off src) k → said_no r ≡ k
+  write_says : (k : ℕ) → Whole img → 4 * blocks img ≤ length s → Reached img n → First (write_own img n off src) k → answer_no r ≡ k
   write_says k w l x f = first_one (write_tests img s n off src) (write_first c) (whole_first img s n n (write_own img n off src) k l w x x f)
 
   abbrev write_long : Type 0
@@ -78,31 +60,31 @@ module _ {img img' s s' src : List ℕ} {n off : ℕ} {r : Said} (c : Written im
   abbrev write_full : Type 0
   write_full = TooFull img n (max (size img n) (off + length src))
 
-  pub write_5 : (said_no r ≡ 5 → Whole img × (4 * blocks img ≤ length s) × Reached img n × (kind img n ≡ 2))
-      × (Whole img → 4 * blocks img ≤ length s → Reached img n → kind img n ≡ 2 → said_no r ≡ 5)
+  pub write_5 : (answer_no r ≡ 5 → Whole img × (4 * blocks img ≤ length s) × Reached img n × (kind img n ≡ 2))
+      × (Whole img → 4 * blocks img ≤ length s → Reached img n → kind img n ≡ 2 → answer_no r ≡ 5)
   write_5 = (
-    λ e. let x = write-past (omega arith) in (x.0, x.1, x.2, at_5 (kind img n ≡ 2) write_long write_full (said_no r) x.4 e),
+    λ e. let x = write-past (omega arith) in (x.0, x.1, x.2, at_5 (kind img n ≡ 2) write_long write_full (answer_no r) x.4 e),
     λ w l x d. write_says 5 w l x (◌⊎◌.inl (d, refl)),
   )
 
-  pub write_12 : (said_no r ≡ 12 → Whole img × (4 * blocks img ≤ length s) × Reached img n × (kind img n ≢ 2) × (longest < off + length src))
-      × (Whole img → 4 * blocks img ≤ length s → Reached img n → kind img n ≢ 2 → longest < off + length src → said_no r ≡ 12)
+  pub write_12 : (answer_no r ≡ 12 → Whole img × (4 * blocks img ≤ length s) × Reached img n × (kind img n ≢ 2) × (longest < off + length src))
+      × (Whole img → 4 * blocks img ≤ length s → Reached img n → kind img n ≢ 2 → longest < off + length src → answer_no r ≡ 12)
   write_12 = (
     λ e.
         let x = write-past (omega arith) in
-        let y = at_12 (kind img n ≡ 2) write_long write_full (said_no r) x.4 e in
+        let y = at_12 (kind img n ≡ 2) write_long write_full (answer_no r) x.4 e in
         (x.0, x.1, x.2, y.0, y.1),
     λ w l x d a. write_says 12 w l x (◌⊎◌.inr (d, ◌⊎◌.inl (a, refl))),
   )
 
-  pub write_14 : (said_no r ≡ 14 → Whole img × (4 * blocks img ≤ length s) × Reached img n × (kind img n ≢ 2) × (off + length src ≤ longest)
+  pub write_14 : (answer_no r ≡ 14 → Whole img × (4 * blocks img ≤ length s) × Reached img n × (kind img n ≢ 2) × (off + length src ≤ longest)
       × TooFull img n (max (size img n) (off + length src)))
       × (Whole img → 4 * blocks img ≤ length s → Reached img n → kind img n ≢ 2 → off + length src ≤ longest
-      → TooFull img n (max (size img n) (off + length src)) → said_no r ≡ 14)
+      → TooFull img n (max (size img n) (off + length src)) → answer_no r ≡ 14)
   write_14 = (
     λ e.
         let x = write-past (omega arith) in
-        let y = at_14 (kind img n ≡ 2) write_long write_full (said_no r) x.4 e in
+        let y = at_14 (kind img n ≡ 2) write_long write_full (answer_no r) x.4 e in
         (x.0, x.1, x.2, y.0, omega (arith, y.1), y.2),
     λ w l x d a b. write_says 14 w l x (◌⊎◌.inr (d, ◌⊎◌.inr (λ q. omega arith, ◌⊎◌.inl (b, refl)))),
   )
@@ -110,38 +92,36 @@ module _ {img img' s s' src : List ℕ} {n off : ℕ} {r : Said} (c : Written im
 -- ---- resize
 
 module _ {img img' s s' : List ℕ} {n len : ℕ} {r : Said} (c : Resized img img' s s' n len r) where
-  resize_past : 4 < said_no r → Whole img × (4 * blocks img ≤ length s) × Reached img n × Reached img n × First (resize_own img n len) (said_no r)
-  resize_past =
-      past_open (resize_own img n len) c.opening (of_filed (resize_answer img n len)) c.said
-      (λ w y z. subst (First (resize_own img n len)) (sym (said_filed (resize_answer img n len))) (resize_own_lem w y len))
+  resize_past : 4 < answer_no r → Whole img × (4 * blocks img ≤ length s) × Reached img n × Reached img n × First (resize_own img n len) (answer_no r)
+  resize_past = grind (arith, common_steps, giving_no, resize_own_lem)
 
-  resize_says : (k : ℕ) → Whole img → 4 * blocks img ≤ length s → Reached img n → First (resize_own img n len) k → said_no r ≡ k
+  resize_says : (k : ℕ) → Whole img → 4 * blocks img ≤ length s → Reached img n → First (resize_own img n len) k → answer_no r ≡ k
   resize_says k w l x f = first_one (resize_tests img s n len) (resize_first c) (whole_first img s n n (resize_own img n len) k l w x x f)
 
-  pub resize_5 : (said_no r ≡ 5 → Whole img × (4 * blocks img ≤ length s) × Reached img n × (kind img n ≡ 2))
-      × (Whole img → 4 * blocks img ≤ length s → Reached img n → kind img n ≡ 2 → said_no r ≡ 5)
+  pub resize_5 : (answer_no r ≡ 5 → Whole img × (4 * blocks img ≤ length s) × Reached img n × (kind img n ≡ 2))
+      × (Whole img → 4 * blocks img ≤ length s → Reached img n → kind img n ≡ 2 → answer_no r ≡ 5)
   resize_5 = (
-    λ e. let x = resize_past (omega arith) in (x.0, x.1, x.2, at_5 (kind img n ≡ 2) (longest < len) (TooFull img n len) (said_no r) x.4 e),
+    λ e. let x = resize_past (omega arith) in (x.0, x.1, x.2, at_5 (kind img n ≡ 2) (longest < len) (TooFull img n len) (answer_no r) x.4 e),
     λ w l x d. resize_says 5 w l x (◌⊎◌.inl (d, refl)),
   )
 
-  pub resize_12 : (said_no r ≡ 12 → Whole img × (4 * blocks img ≤ length s) × Reached img n × (kind img n ≢ 2) × (longest < len))
-      × (Whole img → 4 * blocks img ≤ length s → Reached img n → kind img n ≢ 2 → longest < len → said_no r ≡ 12)
+  pub resize_12 : (answer_no r ≡ 12 → Whole img × (4 * blocks img ≤ length s) × Reached img n × (kind img n ≢ 2) × (longest < len))
+      × (Whole img → 4 * blocks img ≤ length s → Reached img n → kind img n ≢ 2 → longest < len → answer_no r ≡ 12)
   resize_12 = (
     λ e.
         let x = resize_past (omega arith) in
-        let y = at_12 (kind img n ≡ 2) (longest < len) (TooFull img n len) (said_no r) x.4 e in
+        let y = at_12 (kind img n ≡ 2) (longest < len) (TooFull img n len) (answer_no r) x.4 e in
         (x.0, x.1, x.2, y.0, y.1),
     λ w l x d a. resize_says 12 w l x (◌⊎◌.inr (d, ◌⊎◌.inl (a, refl))),
   )
 
-  pub resize_14 : (said_no r ≡ 14
+  pub resize_14 : (answer_no r ≡ 14
       → Whole img × (4 * blocks img ≤ length s) × Reached img n × (kind img n ≢ 2) × (len ≤ longest) × TooFull img n len)
-      × (Whole img → 4 * blocks img ≤ length s → Reached img n → kind img n ≢ 2 → len ≤ longest → TooFull img n len → said_no r ≡ 14)
+      × (Whole img → 4 * blocks img ≤ length s → Reached img n → kind img n ≢ 2 → len ≤ longest → TooFull img n len → answer_no r ≡ 14)
   resize_14 = (
     λ e.
         let x = resize_past (omega arith) in
-        let y = at_14 (kind img n ≡ 2) (longest < len) (TooFull img n len) (said_no r) x.4 e in
+        let y = at_14 (kind img n ≡ 2) (longest < len) (TooFull img n len) (answer_no r) x.4 e in
         (x.0, x.1, x.2, y.0, omega (arith, y.1), y.2),
     λ w l x d a b. resize_says 14 w l x (◌⊎◌.inr (d, ◌⊎◌.inr (λ q. omega arith, ◌⊎◌.inl (b, refl)))),
   )

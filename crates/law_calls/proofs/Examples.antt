@@ -6,8 +6,9 @@ use Prim.Native.Nat.{ℕ, ◌+◌, ◌-◌, ◌≤◌}
 use native.Mathlib.Omega.{arith}
 use lib.Dec.{eqb, lit≤}
 use lib.ListN.{length, replicate, length-replicate}
+use Rattle.std.proofs.lemmas.Grind.{common_steps}
 use Rattle.words.specs.Words.{pick, byte, Bytes}
-use Rattle.card_layout.specs.Super.{blocks, unused}
+use Rattle.card_layout.specs.Super.{unused}
 use Rattle.card_layout.specs.Inode.{size, links}
 use Rattle.card_layout.specs.Entry.{Name}
 use Rattle.card_layout.specs.Sizes.{blocks_for}
@@ -16,28 +17,31 @@ use Rattle.card_layout.specs.declared.inode.FileType.TheVariants.{Dir}
 use Rattle.card_rules.specs.View.{data_at, name}
 use Rattle.card_rules.specs.Whole.{root}
 use Rattle.card_rules.proofs.Views.{owned_few, owned_least}
-use Rattle.check_walk.specs.declared.Opened.{Opened}
-use Rattle.check_walk.specs.declared.Opened.TheVariants.{Open}
-use Rattle.check_walk.specs.Opening.{Opening, counts_at}
+use Rattle.check_walk.specs.Opening.{Opening, counts_at, Opened}
 use Rattle.check_walk.proofs.Agree.{opened}
 use Rattle.check_line.specs.Line.{line_of}
 use Rattle.check_line.proofs.Line.{line_fresh, line_refused}
 use Rattle.dir_entries.specs.Entries.{eqs}
 use Rattle.dir_entries.specs.Names.{dot, dots}
 use Rattle.dir_create.specs.Create.{create_answer, create_card}
+use Rattle.dir_create.proofs.CreateLaws.{create_refused}
 use Rattle.dir_unlink.specs.Unlink.{unlink_answer, unlink_card}
-use Rattle.dir_answers.specs.declared.Acted.TheVariants.{BadName, IsDir}
-use Rattle.dir_answers.specs.Answers.{acted_no, the_inode}
+use Rattle.dir_unlink.proofs.UnlinkLaws.{unlink_refused}
+use Rattle.dir_answers.specs.Answers.{the_inode}
 use Rattle.file_grow.proofs.Taken.{nth_free}
 use Rattle.law_calls.specs.Examples.{fresh, created, with_a, sized_a, fresh_line, Examples}
 use Rattle.law_files.proofs.Requests.{of_kind}
 use Rattle.law_dirs.proofs.FreshBytes.{bytes_tested, name_tested}
 use Rattle.law_dirs.proofs.FreshCard.{format_done}
 use Rattle.law_files.proofs.FreeFrom.{byte_from, nth_from}
-use Rattle.law_dirs.proofs.CreateTests.{Known, CreateTests, create_6, create_8, create_9, create_12, create_13, create_14, create_done, create_tests_lem, create_refused}
-use Rattle.law_dirs.proofs.UnlinkTests.{unlink_refused}
-use Rattle.law_calls.proofs.ExamplesFresh.{Start, Given, start, whole, root_listed, start_free, creates, create_4, root_size, root_links, third_name, unused_left}
-use Rattle.law_calls.proofs.ExamplesFile.{FileCard, free_at, known_file, file_card, too_long, no_room, sized_done, sized_card, sized_data, reads_none, reads_same}
+use Rattle.law_dirs.proofs.CreateTests.{Known, create_tests_lem}
+use Rattle.law_calls.proofs.ExamplesFresh.{Start, Given, start, whole, root_listed, start_free}
+use Rattle.law_calls.proofs.ExamplesFresh.{creates, create_4, root_size, root_links, third_name, unused_left}
+use Rattle.law_calls.proofs.ExamplesFile.{FileCard, free_at, known_file, file_card, too_long, no_room}
+use Rattle.law_calls.proofs.ExamplesFile.{sized_done, sized_card, sized_data, reads_none, reads_same}
+use Rattle.refusals.specs.Refusals.{answer_no}
+use Rattle.refusals.specs.declared.Refusal.TheVariants.{IsDir, BadName}
+use Rattle.std.specs.Prelude.{Ok, Err}
 
 -- ---- names
 
@@ -67,28 +71,16 @@ known_dir = record { low = omega arith; high = omega arith }
 
 module _ {c : List ℕ} {nb : ℕ} (s : Start c nb) where
   -- ".." is not unlinked
-  dots_refused : unlink_answer c 1 dots ≡ IsDir
+  dots_refused : unlink_answer c 1 dots ≡ Err IsDir
   unfolding unlink_answer eqs
   dots_refused = rw (of_kind c 1 Dir s.fresh.bare.dir).decodes
 
   dots_stay : unlink_card nb c 1 dots ≡ c
-  dots_stay = unlink_refused nb c 1 dots (λ e. omega (arith, ap acted_no dots_refused))
+  dots_stay = unlink_refused c 1 dots nb (λ e. omega (arith, ap answer_no dots_refused))
 
   -- a name that cannot be stored
-  no_such_name : (x : List ℕ) → (Name x → ⊥) → (create_answer nb c 1 x 1 ≡ BadName) × (create_card nb c 1 x 1 ≡ c)
-  no_such_name x d = (refuses, create_refused nb c 1 x 1 (λ e. omega (arith, ap acted_no refuses)))
-    where
-      go : CreateTests c 1 x 1 (create_answer (blocks c) c 1 x 1) → create_answer (blocks c) c 1 x 1 ≡ BadName
-      go (create_6 n e) = absurd (n s.fresh.bare.dir)
-      go (create_8 n g e) = e
-      go (create_9 n g j l q e) = absurd (d g)
-      go (create_12 g n e) = absurd (d g.stored)
-      go (create_13 g q f e) = absurd (d g.stored)
-      go (create_14 g q f l e) = absurd (d g.stored)
-      go (create_done g e) = absurd (d g.name.stored)
-
-      refuses : create_answer nb c 1 x 1 ≡ BadName
-      refuses = subst (λ (b : ℕ). create_answer b c 1 x 1 ≡ BadName) s.fresh.blocks_are (go (create_tests_lem s.sound 1 (root_listed s) x 1))
+  no_such_name : (x : List ℕ) → (Name x → ⊥) → (create_answer nb c 1 x 1 ≡ Err BadName) × (create_card nb c 1 x 1 ≡ c)
+  no_such_name x d = grind (arith, common_steps, create_refused, create_tests_lem, root_listed)
 
 -- ---- creations
 
@@ -149,10 +141,10 @@ module _ (img : List ℕ) (bytes : Bytes img) (long : 73728 ≤ length img) wher
   counts_16 = rw (s16.fresh.blocks_are, s16.fresh.unused_are)
 
   checked_16 : (s s' : List ℕ) (o : Opened) → Opening (fresh 16 img) s s' 1 1 o → 64 ≤ length s
-      → (o ≡ Open (record { blocks = 16; unused = 12 })) × (line_of o ≡ fresh_line)
+      → (o ≡ Ok (record { blocks = 16; unused = 12 })) × (line_of o ≡ fresh_line)
   checked_16 s s' o z enough =
-      let e : o ≡ Open (record { blocks = 16; unused = 12 }) =
-      ((opened z).1 (omega (arith, s16.fresh.blocks_are)) (whole s16) root root).0 ∙ ap Open counts_16 in
+      let e : o ≡ Ok (record { blocks = 16; unused = 12 }) =
+      ((opened z).1 (omega (arith, s16.fresh.blocks_are)) (whole s16) root root).0 ∙ ap Ok counts_16 in
       (e, ap line_of e ∙ line_fresh)
 
   -- the lengths, by the blocks that they take

@@ -10,8 +10,7 @@ use Rattle.card_rules.specs.Whole.{root, Whole}
 use Rattle.card_rules.proofs.Bare.{one}
 use Rattle.dir_answers.specs.Answers.{the_inode}
 use Rattle.dir_create.specs.Create.{create_answer, create_card}
-use Rattle.call_said.specs.Said.{said_no, said_value, of_acted}
-use Rattle.call_said.specs.declared.Said.{Said}
+use Rattle.call_said.specs.Said.{said_value, numbered, Said}
 use Rattle.call_dirs.specs.DirCalls.{Created}
 use Rattle.law_calls.specs.Examples.{fresh}
 use Rattle.law_dirs.proofs.FreshBytes.{bytes_tested}
@@ -21,6 +20,7 @@ use Rattle.law_calls.proofs.Room.{create_leaves}
 use Rattle.law_calls.proofs.DoneCalls.{created_done}
 use Rattle.law_calls.proofs.ExamplesFresh.{Start, start, start_length}
 use Rattle.law_calls.proofs.Examples.{examples}
+use Rattle.refusals.specs.Refusals.{answer_no}
 
 module _ (img : List ℕ) (bytes : Bytes img) (long : 73728 ≤ length img) where
   pub start_16 : Start (fresh 16 img) 16
@@ -37,14 +37,14 @@ module _ (img : List ℕ) (bytes : Bytes img) (long : 73728 ≤ length img) wher
     scratch = omega (arith, start_16.fresh.blocks_are)
 
     -- "number 4"
-    said_4 : r ≡ of_acted (the_inode 4)
+    said_4 : r ≡ numbered (the_inode 4)
     said_4 =
         create_inode whole_16 scratch root c
-        ∙ ap (λ (nb : ℕ). of_acted (create_answer nb (fresh 16 img) 1 (97 ∷ []) 1)) start_16.fresh.blocks_are
-        ∙ ap of_acted (examples img bytes long).file_a.0
+        ∙ ap (λ (nb : ℕ). numbered (create_answer nb (fresh 16 img) 1 (97 ∷ []) 1)) start_16.fresh.blocks_are
+        ∙ ap numbered (examples img bytes long).file_a.0
 
-    pub file_said : said_no r ≡ 0
-    file_said = ap said_no said_4
+    pub file_said : answer_no r ≡ 0
+    file_said = ap answer_no said_4
 
     pub file_done : CreateDone one (fresh 16 img) out 1 (97 ∷ []) 1 4
     file_done =

@@ -5,16 +5,17 @@ use mathlib.Core.List.{List, ◌∷◌}
 use Prim.Native.Nat.{ℕ, ◌+◌, ◌-◌, ◌≤◌, ◌<◌, min}
 use native.Mathlib.Omega.{arith}
 use native.Mathlib.Decide.{dec_lt}
-use borrow.Author.Tests.{lt-ltb, le-ltb}
+use borrow.Author.Tests.{le-ltb}
 use lib.Seq.{ext_get_or}
 use lib.ListN.{length}
+use Rattle.std.proofs.lemmas.Grind.{common_steps}
 use Rattle.words.specs.Words.{Bytes}
 use Rattle.words.specs.Sums.{δ, cnt}
 use Rattle.words.proofs.Sums.{δ_same, δ_other}
 use Rattle.card_layout.specs.Sizes.{blocks_for}
 use Rattle.card_layout.specs.Super.{blocks, unused}
 use Rattle.card_layout.specs.Inode.{size, kind, count, head_at}
-use Rattle.card_layout.specs.Slots.{seconds, owned}
+use Rattle.card_layout.specs.Slots.{owned}
 use Rattle.card_layout.specs.declared.inode.FileType.TheVariants.{File}
 use Rattle.card_layout.proofs.InodeLaws.{inode_at}
 use Rattle.card_map.specs.Bits.{map_bit}
@@ -32,13 +33,13 @@ use Rattle.file_read.proofs.ReadBytes.{read_rest}
 use Rattle.file_fill.proofs.Sound.{sound_readable}
 use Rattle.file_grow.proofs.Taken.{nth_free}
 use Rattle.file_requests.specs.Resizing.{resized}
+use Rattle.file_requests.proofs.Answers.{judged-long, judged-full, judged-fits}
 use Rattle.file_requests.specs.Requests.{longest, needs, resize_answer, resize_card, read_answer, read_buffer}
-use Rattle.file_requests.specs.declared.Filed.TheVariants.{Done, Count, InvalidParam, NoDeviceSpace}
 use Rattle.dir_create.specs.Create.{create_card}
 use Rattle.law_files.proofs.Plan.{turn_of, planned, more}
 use Rattle.law_files.proofs.Resized.{Resized}
 use Rattle.law_files.proofs.Placed.{Placed, grow_placed}
-use Rattle.law_files.proofs.Requests.{OfKind, of_kind, judged-long, judged-full, judged_fine, resize_file, resize_done, resize_full, read_file, read_buffer_lem}
+use Rattle.law_files.proofs.Requests.{OfKind, of_kind, resize_file, resize_done, resize_full, read_file, read_buffer_lem}
 use Rattle.law_files.proofs.Lengths.{length_change}
 use Rattle.law_files.proofs.Files.{takes_exactly}
 use Rattle.law_files.proofs.FreeFrom.{FreeFrom, nth_from, from_taken}
@@ -46,7 +47,9 @@ use Rattle.law_dirs.proofs.NewInode.{owns_none}
 use Rattle.law_dirs.proofs.Creating.{listed_here}
 use Rattle.law_dirs.proofs.CreateTests.{Known}
 use Rattle.law_dirs.proofs.CreateCard.{CreateDone}
-use Rattle.law_calls.proofs.ExamplesFresh.{Start, Given, start_free, create_4, unused_left, new_owns}
+use Rattle.law_calls.proofs.ExamplesFresh.{Start, Given, start_free, create_4, new_owns}
+use Rattle.refusals.specs.declared.Refusal.TheVariants.{InvalidParam, NoDeviceSpace}
+use Rattle.std.specs.Prelude.{Ok, Err}
 
 -- a card of nb blocks whose file 4 has len bytes and the blocks from 5 on, all others after it being free
 pub record FileCard (c : List ℕ) (nb len : ℕ) : Type 0 where
@@ -92,28 +95,13 @@ module _ {c : List ℕ} {nb : ℕ} (s : Start c nb) (x : List ℕ) (g : Given x)
       low b h (no l) m = omega (arith, bits b h, δ_same 4 b (omega arith), bit_below c b)
 
   pub file_card : FileCard (create_card nb c 1 x 1) nb 0
-  file_card =
-      let z : owned 0 ≡ 0 = owned_few 0 (omega arith) in
-      subst (λ (b : ℕ). FileCard (create_card b c 1 x 1) nb 0) s.fresh.blocks_are
-      (record {
-        sound = done.sound;
-        bytes = done.bytes;
-        blocks_are = done.blocks_same ∙ s.fresh.blocks_are;
-        file = done.kind_is;
-        size_is = (done.file (λ e. omega arith)).size_is;
-        count_is = (done.file (λ e. omega arith)).count_is;
-        unused_are = omega (arith, unused_left s x g 1 known_file);
-        free = subst (λ (m : ℕ). FreeFrom made m nb) (omega arith) made_free;
-      })
+  file_card = grind (arith, common_steps, owned_few, done, made_free)
 
 -- ---- resized
 
 -- the turns of the data of a file that has no pointer blocks
 turn_few : (b i : ℕ) → b < 12 → turn_of 0 b (at_data i) ≡ i
-turn_few b i h =
-    let p : seconds b ≡ 0 = seconds_none b (omega arith) in
-    let q : seconds 0 ≡ 0 = seconds_none 0 (omega arith) in
-    rw (lt-ltb b 12 h, lt-ltb b 1036 (omega arith), p, q) (omega arith)
+turn_few b i h = grind (arith, common_steps, seconds_none)
 
 module _ {c : List ℕ} {nb : ℕ} (s : FileCard c nb 0) (len : ℕ) where
   kind_of : OfKind c 4 File
@@ -125,20 +113,20 @@ module _ {c : List ℕ} {nb : ℕ} (s : FileCard c nb 0) (len : ℕ) where
   unused_here : unused c ≡ nb - 5
   unused_here = omega (arith, s.unused_are, owned_few 0 (omega arith))
 
-  pub too_long : longest < len → resize_answer c 4 len ≡ InvalidParam
+  pub too_long : longest < len → resize_answer c 4 len ≡ Err InvalidParam
   too_long h = resize_file kind_of tt len ∙ judged-long (unused c) (head_at c 4 File) len h
 
-  pub no_room : len ≤ longest → nb - 5 < owned (blocks_for len) → (resize_answer c 4 len ≡ NoDeviceSpace) × (resize_card nb c 4 len ≡ c)
+  pub no_room : len ≤ longest → nb - 5 < owned (blocks_for len) → (resize_answer c 4 len ≡ Err NoDeviceSpace) × (resize_card nb c 4 len ≡ c)
   no_room short h =
       let r : unused c < needs (count c 4) len = omega (arith, needs_are, unused_here) in
-      (resize_file kind_of tt len ∙ judged-full (unused c) (head_at c 4 File) len short r, resize_full kind_of tt nb len short r)
+      (resize_file kind_of tt len ∙ judged-full (unused c) (head_at c 4 File) len short (omega arith), resize_full kind_of tt nb len short r)
 
   module _ (short : len ≤ longest) (some : 0 < len) (room : owned (blocks_for len) ≤ nb - 5) (more-than : 5 ≤ nb) where
     fine : needs (count c 4) len ≤ unused c
     fine = omega (arith, needs_are, unused_here)
 
-    pub sized_done : resize_answer c 4 len ≡ Done
-    sized_done = resize_file kind_of tt len ∙ judged_fine (unused c) (head_at c 4 File) len short fine
+    pub sized_done : resize_answer c 4 len ≡ Ok tt
+    sized_done = resize_file kind_of tt len ∙ judged-fits (unused c) (head_at c 4 File) len short (omega (arith, fine))
 
     abbrev out : List ℕ
     out = resized (blocks c) 4 (inode_at c 4 File) len c
@@ -162,38 +150,13 @@ module _ {c : List ℕ} {nb : ℕ} (s : FileCard c nb 0) (len : ℕ) where
     from_5 = free_at s 0 (owned_few 0 (omega arith))
 
     free_out : FreeFrom out (5 + owned (blocks_for len)) nb
-    free_out =
-        from_taken from_5 (owned (blocks_for len))
-        (λ j l. subst (λ (n : ℕ). map_bit out (nth_free n c j) ≡ 0) s.blocks_are (placed.gone j (omega (arith, more_are))))
-        (omega arith)
-        (λ b l d. placed.others b (omega (arith, s.blocks_are)) (λ j q e. d j (omega (arith, more_are)) (e ∙ ap (λ (n : ℕ). nth_free n c j) s.blocks_are)))
+    free_out = grind (arith, common_steps, from_taken, from_5, placed, more_are)
 
     out_sound : Sound out (4 ∷ one)
     out_sound = sound_one s.sound listed change.within change.balanced
 
-    count_out : count out 4 ≡ blocks_for len
-    count_out = change.balanced.inode.shape.counted ∙ ap blocks_for change.size_is
-
     out_card : FileCard out nb len
-    out_card =
-        record {
-          sound = out_sound;
-          bytes = change.bytes;
-          blocks_are = change.balanced.steady.blocks_same ∙ s.blocks_are;
-          file = change.kind_is ∙ s.file;
-          size_is = change.size_is;
-          count_is = count_out;
-          unused_are =
-              omega (
-                arith,
-                takes_exactly s.sound out_sound listed change.balanced,
-                ap owned count_out,
-                ap owned s.count_is,
-                owned_few 0 (omega arith),
-                unused_here,
-              );
-          free = free_out;
-        }
+    out_card = grind (arith, common_steps, out_sound, change, takes_exactly, listed, free_out)
 
     pub sized_card : FileCard (resize_card nb c 4 len) nb len
     sized_card = subst (λ (x : List ℕ). FileCard x nb len) (sym out_is) out_card
@@ -215,9 +178,9 @@ module _ {c : List ℕ} {nb len : ℕ} (s : FileCard c nb len) (off : ℕ) (past
   of_file : OfKind c 4 File
   of_file = of_kind c 4 File s.file
 
-  pub reads_none : (k : ℕ) → read_answer c 4 off k ≡ Count 0
+  pub reads_none : (k : ℕ) → read_answer c 4 off k ≡ Ok 0
   reads_none k =
-      read_file of_file tt off k ∙ ap Count (let e : min (size c 4) (off + k) - min (size c 4) off ≡ 0 = omega (arith, s.size_is) in e)
+      read_file of_file tt off k ∙ ap Ok (let e : min (size c 4) (off + k) - min (size c 4) off ≡ 0 = omega (arith, s.size_is) in e)
 
   pub reads_same : (buf : List ℕ) → read_buffer nb c 4 off buf ≡ buf
   reads_same buf =

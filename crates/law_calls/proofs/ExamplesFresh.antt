@@ -1,12 +1,12 @@
 -- A card as format leaves it, and what its first creation in the root comes to: inode 4. Assumes nothing.
 use mathlib.Core.Path.{◌≡◌, refl, sym, ap, ◌∙◌, subst}
-use mathlib.Core.Bool.{Bool, true, false}
-use mathlib.Core.List.{List, [], ◌∷◌}
+use mathlib.Core.List.{List, []}
 use mathlib.Core.Logic.{◌≢◌}
-use Prim.Native.Nat.{ℕ, zero, suc, ◌+◌, ◌-◌, ◌*◌, ◌/◌, ◌≤◌, ◌<◌}
+use Prim.Native.Nat.{ℕ, ◌+◌, ◌-◌, ◌*◌, ◌≤◌, ◌<◌}
 use native.Mathlib.Omega.{arith}
 use lib.Dec.{eqb}
 use lib.ListN.{length}
+use Rattle.std.proofs.lemmas.Grind.{common_steps}
 use Rattle.words.specs.Words.{pick, Bytes}
 use Rattle.words.specs.Sums.{δ, cnt}
 use Rattle.words.proofs.Sums.{δ_same, sum_on_cons, sum_on_nil}
@@ -18,7 +18,7 @@ use Rattle.card_layout.specs.Slots.{owned}
 use Rattle.card_layout.specs.declared.inode.FileType.TheVariants.{Dir}
 use Rattle.card_map.specs.Bits.{map_bit}
 use Rattle.card_map.specs.Free.{lowest}
-use Rattle.card_rules.specs.View.{entries, name, owns}
+use Rattle.card_rules.specs.View.{name, owns}
 use Rattle.card_rules.specs.Whole.{root, Sound, Tree, Whole}
 use Rattle.card_rules.specs.Places.{at_data}
 use Rattle.card_rules.proofs.Views.{data_direct}
@@ -31,7 +31,7 @@ use Rattle.dir_create.specs.Create.{create_takes, create_answer, create_card}
 use Rattle.dir_answers.specs.Answers.{the_inode}
 use Rattle.law_files.proofs.FreeFrom.{FreeFrom, lowest_from}
 use Rattle.law_dirs.proofs.FreshCard.{Fresh, Fits, fresh_views, fresh_bytes, fresh_card, fresh_length, format_card_lem}
-use Rattle.law_dirs.proofs.CreateTests.{Known, CreateTests, create_6, create_8, create_9, create_12, create_13, create_14, create_done, create_tests_lem}
+use Rattle.law_dirs.proofs.CreateTests.{Known, create_tests_lem}
 use Rattle.law_dirs.proofs.CreateCard.{CreateDone, create}
 
 pub record Start (c : List ℕ) (nb : ℕ) : Type 0 where
@@ -60,9 +60,7 @@ start img bytes nb few many long =
     })
 
 pub start_length : (img : List ℕ) (nb : ℕ) → fewest ≤ nb → nb ≤ most → 4096 * nb ≤ length img → length (format_card img (4096 * nb)) ≡ length img
-start_length img nb few many long =
-    let e : blocks_for (4096 * nb) ≡ nb = omega arith in
-    ap length (format_card_lem img (4096 * nb) (fits (length img) nb few many long) ∙ ap (λ (n : ℕ). formatted n img) e) ∙ fresh_length img nb few many long
+start_length img nb few many long = grind (arith, common_steps, format_card_lem, fresh_length)
 
 -- a name that its root can take
 pub record Given (x : List ℕ) : Type 0 where
@@ -70,10 +68,6 @@ pub record Given (x : List ℕ) : Type 0 where
   pub not_dot : x ≢ dot
   pub not_dots : x ≢ dots
   pub bytes : Bytes x
-
-one_more : (t : Bool) → pick t 1 0 ≤ 1
-one_more true = omega arith
-one_more false = omega arith
 
 module _ {c : List ℕ} {nb : ℕ} (s : Start c nb) where
   abbrev pub whole : Whole c
@@ -92,31 +86,14 @@ module _ {c : List ℕ} {nb : ℕ} (s : Start c nb) where
   takes_none = rw (s.fresh.bare.counted, s.fresh.bare.bytes)
 
   module _ (x : List ℕ) (g : Given x) (k : ℕ) (known : Known k) where
-    no_entry_lem : (j : ℕ) → j < 2 → name c 1 j ≡ x → ⊥
-    no_entry_lem zero l e = g.not_dot (sym e ∙ s.fresh.bare.dot)
-    no_entry_lem (suc zero) l e = g.not_dots (sym e ∙ s.fresh.bare.dots)
-    no_entry_lem (suc (suc j)) l e = omega arith
-
     pub takes_are : create_takes (head_at c 1 Dir) k ≡ 1 + pick (eqb k 2) 1 0
     takes_are = omega (arith, takes_none)
-
-    room : create_takes (head_at c 1 Dir) k ≤ unused c
-    room = omega (arith, takes_are, one_more (eqb k 2), s.fresh.unused_are, s.few)
 
     lowest_is_4 : lowest c 0 (blocks c) ≡ 4
     lowest_is_4 = ap (lowest c 0) s.fresh.blocks_are ∙ lowest_from start_free (omega (arith, s.few))
 
     pub creates : create_answer (blocks c) c 1 x k ≡ the_inode 4
-    creates = go (create_tests_lem s.sound 1 root_listed x k)
-      where
-        go : CreateTests c 1 x k (create_answer (blocks c) c 1 x k) → create_answer (blocks c) c 1 x k ≡ the_inode 4
-        go (create_6 d e) = absurd (d s.fresh.bare.dir)
-        go (create_8 d n e) = absurd (n g.named)
-        go (create_9 d n j l q e) = absurd (no_entry_lem j (omega (arith, s.fresh.bare.bytes)) q)
-        go (create_12 n d e) = absurd (d known)
-        go (create_13 n q f e) = absurd (omega (arith, s.fresh.bare.linked))
-        go (create_14 n q d l e) = absurd (omega (arith, room))
-        go (create_done n e) = e ∙ ap the_inode lowest_is_4
+    creates = grind (arith, common_steps, create_tests_lem, root_listed, lowest_is_4)
 
     abbrev out : List ℕ
     out = create_card (blocks c) c 1 x k
@@ -131,19 +108,14 @@ module _ {c : List ℕ} {nb : ℕ} (s : Start c nb) where
     root_links = omega (arith, create_4.parent_links, s.fresh.bare.linked)
 
     pub third_name : name out 1 2 ≡ x
-    third_name =
-        let e : entries c 1 ≡ 2 = ap (λ (y : ℕ). y / 260) s.fresh.bare.bytes in
-        ap (name out 1) (sym e) ∙ create_4.more.name_new
+    third_name = grind (arith, common_steps, create_4)
 
     pub unused_left : unused out + (1 + pick (eqb k 2) 1 0) ≡ nb - 4
     unused_left = omega (arith, create_4.takes, takes_are, s.fresh.unused_are)
 
     -- the root keeps its block, so the new inode's are those that are no longer free
     root_count : count out 1 ≡ 1
-    root_count = omega (arith, (create_4.sound.inode 1 listed).shape.counted, root_size)
-      where
-        listed : 0 < cnt 1 (4 ∷ one)
-        listed = omega (arith, sum_on_cons (δ 1) 4 one, root_listed)
+    root_count = grind (arith, common_steps, create_4, sum_on_cons, root_listed)
 
     root_owns : (b : ℕ) → owns out 1 b ≡ owns c 1 b
     root_owns b =

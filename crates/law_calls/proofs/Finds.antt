@@ -4,8 +4,9 @@ use mathlib.Core.Logic.{◌≢◌, ◌⊎◌}
 use mathlib.Core.List.{List, []}
 use Prim.Native.Nat.{ℕ, ◌/◌, ◌≤◌, ◌<◌}
 use native.Mathlib.Omega.{arith}
-use native.Mathlib.Decide.{dec_lt, ℕ_discrete}
+use native.Mathlib.Decide.{ℕ_discrete}
 use borrow.Author.Tests.{eq-eqb}
+use Rattle.std.proofs.lemmas.Grind.{common_steps}
 use Rattle.words.specs.Words.{Bytes}
 use Rattle.words.specs.Sums.{cnt}
 use Rattle.card_layout.specs.Inode.{kind}
@@ -16,40 +17,20 @@ use Rattle.card_rules.proofs.Tree.{reached_listed}
 use Rattle.card_rules.proofs.Frames.{size_is, kind_is, entry_is, name_is, file_refl}
 use Rattle.dir_entries.specs.Entries.{where_is}
 use Rattle.dir_entries.specs.Names.{dots}
-use Rattle.dir_entries.proofs.Lookup.{where_hit, where_only}
+use Rattle.dir_entries.proofs.Lookup.{where_hit}
 use Rattle.dir_answers.specs.Answers.{the_inode, named_by}
 use Rattle.dir_look.specs.Look.{find_answer}
-use Rattle.call_said.specs.Said.{said_no}
-use Rattle.call_said.specs.declared.Said.{Said}
 use Rattle.law_dirs.proofs.Tests.{whole_inode}
 use Rattle.law_dirs.proofs.LookTests.{FindTests, find_6, find_10, find_done, find_tests_lem, find_exact}
-use Rattle.law_dirs.proofs.EntryCounts.{EntryMore, EntryLess, EntryNamed, came_from, went_to}
+use Rattle.law_dirs.proofs.EntryCounts.{EntryMore, EntryLess, EntryNamed}
 use Rattle.law_dirs.proofs.CreateCard.{CreateDone}
 use Rattle.law_dirs.proofs.LinkCard.{LinkDone}
 use Rattle.law_dirs.proofs.UnlinkCard.{UnlinkDone}
 use Rattle.law_dirs.proofs.MoveDir.{TurnedDir}
 use Rattle.law_dirs.proofs.MoveJudged.{Judged}
 use Rattle.law_dirs.proofs.MoveCard.{MoveDone}
-use Rattle.law_calls.specs.Made.{
-  Asked,
-  creating,
-  linking,
-  unlinking,
-  moving,
-  Made,
-  filed,
-  create,
-  link,
-  unlink,
-  move,
-  find,
-  list,
-  describe,
-  check,
-  OfBytesAll,
-  removes_of,
-  Asks,
-}
+use Rattle.law_calls.specs.Made.{Asked, creating, linking, unlinking, moving, Made, filed, create, link}
+use Rattle.law_calls.specs.Made.{unlink, move, find, list, describe, check, OfBytesAll, removes_of, Asks}
 use Rattle.law_calls.specs.Runs.{Call, Unremoved, Unasked, Run, none, next}
 use Rattle.law_calls.proofs.Calls.{call_step}
 use Rattle.law_calls.proofs.Frame.{not_first}
@@ -57,6 +38,8 @@ use Rattle.law_calls.proofs.Refusals.{refused_same}
 use Rattle.law_calls.proofs.DoneCalls.{created_done, linked_can, linked_done, unlinked_target, unlinked_done, moved_judged, moved_done}
 use Rattle.law_calls.proofs.Made.{made_whole, made_bytes}
 use Rattle.law_calls.proofs.Stays.{made_stays}
+use Rattle.call_said.specs.Said.{Said}
+use Rattle.refusals.specs.Refusals.{answer_no}
 
 -- ---- what find asks of a directory
 
@@ -74,9 +57,7 @@ module _ {img out : List ℕ} (w : Whole img) (v : Whole out) {d : ℕ} (r : Rea
 
   -- names differ, so that one entry has it
   one_entry : (i j : ℕ) → i < entries out d → name out d i ≡ x → j < entries out d → name out d j ≡ x → j ≡ i
-  one_entry i j a p b q =
-      let f = (v.tree.dir d s k_out).names.differ in
-      sym (where_only out d x f j b q) ∙ where_only out d x f i a p
+  one_entry i j a p b q = grind (arith, common_steps)
 
   pub kept_finds : find_answer out d x ≡ find_answer img d x
   kept_finds = go (find_tests_lem w d r x)
@@ -105,52 +86,21 @@ module _ {img out : List ℕ} {d : ℕ} {x : List ℕ} where
 
   -- one entry more, of another name
   more_kept : {c : ℕ} {y : List ℕ} → EntryMore img out d c y → x ≢ y → KeptName img out d x
-  more_kept {c} {y} a n =
-      record {
-        kind_same = a.kind_is;
-        still = λ j b e. (j, omega (arith, a.size_is), a.name_kept j b ∙ e, a.entry_kept j b);
-        was = λ i b e. go i b e (dec_lt i (entries img d));
-      }
-    where
-      go : (i : ℕ) → i < entries out d → name out d i ≡ x → Dec (i < entries img d) → (j : ℕ) × (j < entries img d) × (name img d j ≡ x)
-      go i b e (yes h) = (i, h, sym (a.name_kept i h) ∙ e)
-      go i b e (no h) =
-          let z : i ≡ entries img d = omega (arith, a.size_is) in
-          absurd (n (sym e ∙ ap (name out d) z ∙ a.name_new))
+  more_kept {c} {y} a n = grind (arith, common_steps)
 
   -- entry j has another name
   module _ {j : ℕ} (high : j < entries img d) (n : x ≢ name img d j) where
     -- one entry less
     less_kept : Dir img d → EntryLess img out d j → 2 ≤ j → KeptName img out d x
-    less_kept g a low =
-        record {
-          kind_same = a.kind_is;
-          still = λ i b e. let y = went_to g a low high i b (λ z. n (sym e ∙ ap (name img d) z)) in (y.0, y.1, y.2 ∙ e, y.3);
-          was = λ i b e. let y = came_from g a low high i b in (y.0, y.1, sym y.3 ∙ e);
-        }
+    less_kept g a low = grind (arith, common_steps)
 
     -- another name for one
     named_kept : {y : List ℕ} → EntryNamed img out d j y → x ≢ y → KeptName img out d x
-    named_kept {y} a m =
-        record {
-          kind_same = a.kind_is;
-          still = λ i b e. (i, rw a.size_is b, a.name_kept i b (λ z. n (sym e ∙ ap (name img d) z)) ∙ e, a.entry_kept i b);
-          was = λ i b e. go i (rw a.size_is at b) e (ℕ_discrete i j);
-        }
-      where
-        go : (i : ℕ) → i < entries img d → name out d i ≡ x → Dec (i ≡ j) → (k : ℕ) × (k < entries img d) × (name img d k ≡ x)
-        go i b e (yes z) = absurd (m (sym e ∙ ap (name out d) z ∙ a.name_new))
-        go i b e (no z) = (i, b, sym (a.name_kept i b z) ∙ e)
+    named_kept {y} a m = grind (arith, common_steps)
 
   -- another number for ".."
   turned_kept : {t : ℕ} → Dir img d → TurnedDir img out d t → x ≢ dots → KeptName img out d x
-  turned_kept g a n =
-      record {
-        kind_same = a.kind_same;
-        still = λ i b e.
-            (i, rw a.size_same b, a.name_kept i b ∙ e, a.entry_kept i b (λ z. n (sym e ∙ ap (name img d) z ∙ g.first.dots)));
-        was = λ i b e. let h : i < entries img d = rw a.size_same at b in (i, h, sym (a.name_kept i h) ∙ e);
-      }
+  turned_kept g a n = grind (arith, common_steps)
 
 -- ---- one call that is done
 
@@ -247,7 +197,7 @@ module _ {img out : List ℕ} (w : Whole img) {d : ℕ} (r : Reached img d) (k :
 -- ---- any call
 
 module _ {img img' : List ℕ} (w : Whole img) (b : Bytes img) where
-  done_kept : {q : Asked} {r : Said} → OfBytesAll q → Made img img' q r → said_no r ≡ 0 → (d : ℕ) → Reached img d → kind img d ≡ 2 → (x : List ℕ)
+  done_kept : {q : Asked} {r : Said} → OfBytesAll q → Made img img' q r → answer_no r ≡ 0 → (d : ℕ) → Reached img d → kind img d ≡ 2 → (x : List ℕ)
       → cnt d (removes_of img q) ≡ 0 → (Asks img q d x → ⊥) → KeptName img img' d x
   done_kept o (filed c) z d h k x n a =
       by_file_lem w h k ((call_step w.sound w.tree b o c).taken.dirs_same d (reached_listed img w d h) k)
@@ -263,11 +213,11 @@ module _ {img img' : List ℕ} (w : Whole img) (b : Bytes img) where
   done_kept o (check s s' y r c i e) z d h k x n a = rw e (by_file_lem w h k (file_refl img d))
 
   pub made_finds : {q : Asked} {r : Said} → OfBytesAll q → Made img img' q r → (d : ℕ) → Reached img d → kind img d ≡ 2 → (x : List ℕ)
-      → (said_no r ≡ 0 → cnt d (removes_of img q) ≡ 0) → (said_no r ≡ 0 → Asks img q d x → ⊥)
+      → (answer_no r ≡ 0 → cnt d (removes_of img q) ≡ 0) → (answer_no r ≡ 0 → Asks img q d x → ⊥)
       → (kind img' d ≡ 2) × (find_answer img' d x ≡ find_answer img d x)
-  made_finds {q} {r} o m d h k x n a = go (ℕ_discrete (said_no r) 0)
+  made_finds {q} {r} o m d h k x n a = go (ℕ_discrete (answer_no r) 0)
     where
-      go : Dec (said_no r ≡ 0) → (kind img' d ≡ 2) × (find_answer img' d x ≡ find_answer img d x)
+      go : Dec (answer_no r ≡ 0) → (kind img' d ≡ 2) × (find_answer img' d x ≡ find_answer img d x)
       go (yes z) =
           let e = done_kept o m z d h k x (n z) (a z) in
           (e.kind_same ∙ k, kept_finds w (made_whole w b o m) h (made_stays w b o m d h n) k e)

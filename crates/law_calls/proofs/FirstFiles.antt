@@ -1,11 +1,12 @@
 -- Read, write, resize, metadata and the check say the number of the first test whose cause holds, on any image and with any scratch. Assumes nothing.
-use mathlib.Core.Path.{◌≡◌, refl, sym, ap, ◌∙◌}
+use mathlib.Core.Path.{◌≡◌, refl, sym, ap, ◌∙◌, subst}
 use mathlib.Core.Logic.{◌≢◌, ◌⊎◌}
 use mathlib.Core.List.{List}
 use Prim.Native.Nat.{ℕ, ◌+◌, ◌≤◌, ◌<◌, max}
 use native.Mathlib.Omega.{arith}
 use native.Mathlib.Decide.{dec_lt}
 use lib.ListN.{length}
+use Rattle.std.proofs.lemmas.Grind.{common_steps}
 use Rattle.card_layout.specs.Super.{unused}
 use Rattle.card_layout.specs.Inode.{size, kind, count, head_at}
 use Rattle.card_layout.specs.declared.inode.FileType.{FileType}
@@ -14,37 +15,21 @@ use Rattle.card_rules.specs.Whole.{Reached, Inode, Whole}
 use Rattle.card_rules.proofs.Counting.{count_below}
 use Rattle.card_rules.proofs.Frames.{inode_room}
 use Rattle.card_rules.proofs.Tree.{reached_listed}
-use Rattle.check_walk.specs.declared.Opened.{Opened}
-use Rattle.check_walk.specs.declared.Opened.TheVariants.{Open, ScratchShort, WrongFs, Damaged, NoInode}
-use Rattle.check_walk.specs.Opening.{Opening}
-use Rattle.file_requests.specs.Requests.{longest, filed_no, needs, judged, on_done, end_of, write_judged, read_answer, write_answer, resize_answer}
-use Rattle.file_requests.specs.declared.Filed.{Filed}
-use Rattle.file_requests.specs.declared.Filed.TheVariants as F
-use Rattle.call_said.specs.Said.{said_no, if_open, of_opened}
-use Rattle.call_said.specs.declared.Said.{Said}
-use Rattle.call_said.specs.declared.Said.TheVariants.{Done}
+use Rattle.check_walk.specs.Opening.{Opening, Opened}
+use Rattle.file_requests.proofs.Answers.{judged-long, judged-full, judged-fits, write-inside, write-past}
+use Rattle.file_requests.specs.Requests.{longest, needs, judged, end_of, write_judged, read_answer, write_answer, resize_answer}
+use Rattle.call_said.specs.Said.{Said}
 use Rattle.call_files.specs.FileCalls.{Read, Written, Resized}
 use Rattle.call_looks.specs.LookCalls.{Described}
-use Rattle.law_files.proofs.Requests.{
-  OfKind,
-  kinds,
-  Filelike,
-  filelike_not,
-  judged-long,
-  judged-full,
-  judged_fine,
-  write-inside,
-  write-past,
-  resize_dir,
-  write_dir,
-  resize_file,
-  write_answer_lem,
-  write_file,
-  read_file,
-}
+use Rattle.law_files.proofs.Requests.{OfKind, kinds, Filelike, filelike_not, read_dir, resize_dir}
+use Rattle.law_files.proofs.Requests.{write_dir, resize_file, write_answer_lem, write_file, read_file}
 use Rattle.law_dirs.proofs.Tests.{whole_inode}
 use Rattle.law_calls.specs.Tests.{Tests, fine, test, First, TooFull, read_tests, write_tests, resize_tests, look_tests}
-use Rattle.law_calls.proofs.FirstOpen.{first_open, first_filed}
+use Rattle.law_calls.proofs.Calls.{open_said}
+use Rattle.law_calls.proofs.FirstOpen.{first_open, first_said}
+use Rattle.refusals.specs.Refusals.{answer_no}
+use Rattle.std.specs.Prelude.{Ok}
+use Rattle.refusals.proofs.Refused.{giving_no}
 
 -- ---- the tests of each call's own
 
@@ -62,21 +47,8 @@ write_own img n off src = test 5 (kind img n ≡ 2) (length_own img n (off + len
 
 -- ---- a new length
 
-judged_first : (img : List ℕ) (n : ℕ) (k : FileType) (len : ℕ) → First (length_own img n len len) (filed_no (judged (unused img) (head_at img n k) len))
-judged_first img n k len = go (dec_lt longest len) (dec_lt (unused img) (needs (count img n) len))
-  where
-    go : Dec (longest < len) → Dec (TooFull img n len) → First (length_own img n len len) (filed_no (judged (unused img) (head_at img n k) len))
-    go (yes a) q = ◌⊎◌.inl (a, ap filed_no (judged-long (unused img) (head_at img n k) len a))
-    go (no a) (yes q) = ◌⊎◌.inr (a, ◌⊎◌.inl (q, ap filed_no (judged-full (unused img) (head_at img n k) len (omega arith) q)))
-    go (no a) (no q) = ◌⊎◌.inr (a, ◌⊎◌.inr (q, ap filed_no (judged_fine (unused img) (head_at img n k) len (omega arith) (omega arith))))
-
--- a write says what is judged, by its number
-counted_same : (a : Filed) (k : ℕ) → filed_no (on_done a (F.Count k) a) ≡ filed_no a
-counted_same F.Done k = refl
-counted_same (F.Count v) k = refl
-counted_same F.NotFile k = refl
-counted_same F.InvalidParam k = refl
-counted_same F.NoDeviceSpace k = refl
+judged_first : (img : List ℕ) (n : ℕ) (k : FileType) (len : ℕ) → First (length_own img n len len) (answer_no (judged (unused img) (head_at img n k) len))
+judged_first img n k len = grind (arith, common_steps, judged-long, judged-full, judged-fits)
 
 module _ {img : List ℕ} (w : Whole img) {n : ℕ} (r : Reached img n) where
   inode : Inode img n
@@ -95,11 +67,11 @@ module _ {img : List ℕ} (w : Whole img) {n : ℕ} (r : Reached img n) where
     no_dir : kind img n ≢ 2
     no_dir e = filelike_not k f (sym o.number ∙ e)
 
-    resize_filelike : (len : ℕ) → First (resize_own img n len) (filed_no (resize_answer img n len))
+    resize_filelike : (len : ℕ) → First (resize_own img n len) (answer_no (resize_answer img n len))
     resize_filelike len = ◌⊎◌.inr (no_dir, rw (resize_file o f len) (judged_first img n k len))
 
     module _ (off : ℕ) (src : List ℕ) where
-      within : end_of off src ≤ size img n → First (write_own img n off src) (filed_no (write_answer img n off src))
+      within : end_of off src ≤ size img n → First (write_own img n off src) (answer_no (write_answer img n off src))
       within l =
           let e : max (size img n) (off + length src) ≡ size img n = omega arith in
           ◌⊎◌.inr (
@@ -108,79 +80,56 @@ module _ {img : List ℕ} (w : Whole img) {n : ℕ} (r : Reached img n) where
               λ q. omega (arith, size_small),
               ◌⊎◌.inr (
                 λ q. omega (arith, own_size, (rw e at q)),
-                ap filed_no (write_file o f off src (write-inside (unused img) (head_at img n k) (end_of off src) l)),
+                ap answer_no (write_file o f off src (write-inside (unused img) (head_at img n k) (end_of off src) l)),
               ),
             ),
           )
 
-      past : size img n < end_of off src → First (write_own img n off src) (filed_no (write_answer img n off src))
+      past : size img n < end_of off src → First (write_own img n off src) (answer_no (write_answer img n off src))
       past l =
           let e : max (size img n) (off + length src) ≡ off + length src = omega arith in
-          let q : filed_no (write_answer img n off src) ≡ filed_no (judged (unused img) (head_at img n k) (end_of off src)) =
-          ap filed_no (write_answer_lem o f off src)
-          ∙ counted_same (write_judged (unused img) (head_at img n k) (end_of off src)) (length src)
-          ∙ ap filed_no (write-past (unused img) (head_at img n k) (end_of off src) l) in
+          let q : answer_no (write_answer img n off src) ≡ answer_no (judged (unused img) (head_at img n k) (end_of off src)) =
+          ap answer_no (write_answer_lem o f off src)
+          ∙ giving_no (write_judged (unused img) (head_at img n k) (end_of off src)) (length src)
+          ∙ ap answer_no (write-past (unused img) (head_at img n k) (end_of off src) l) in
           ◌⊎◌.inr (no_dir, rw (q, e) (judged_first img n k (off + length src)))
 
-      write_filelike : Dec (size img n < end_of off src) → First (write_own img n off src) (filed_no (write_answer img n off src))
+      write_filelike : Dec (size img n < end_of off src) → First (write_own img n off src) (answer_no (write_answer img n off src))
       write_filelike (yes l) = past l
       write_filelike (no l) = within (omega arith)
 
-    read_filelike : (off j : ℕ) → First (read_own img n) (filed_no (read_answer img n off j))
-    read_filelike off j = ◌⊎◌.inr (no_dir, ap filed_no (read_file o f off j))
+    read_filelike : (off j : ℕ) → First (read_own img n) (answer_no (read_answer img n off j))
+    read_filelike off j = ◌⊎◌.inr (no_dir, ap answer_no (read_file o f off j))
 
-  read_dir : OfKind img n Dir → (off j : ℕ) → read_answer img n off j ≡ F.NotFile
-  unfolding read_answer
-  read_dir o off j = rw o.decodes
+  pub read_own_lem : (off j : ℕ) → First (read_own img n) (answer_no (read_answer img n off j))
+  read_own_lem off j = grind (arith, common_steps, kinds, read_filelike, read_dir)
 
-  pub read_own_lem : (off j : ℕ) → First (read_own img n) (filed_no (read_answer img n off j))
-  read_own_lem off j = let x = kinds img n inode in go x.0 x.1
-    where
-      go : (k : FileType) → OfKind img n k → First (read_own img n) (filed_no (read_answer img n off j))
-      go File o = read_filelike o tt off j
-      go Dir o = ◌⊎◌.inl (o.number, ap filed_no (read_dir o off j))
-      go SymLink o = read_filelike o tt off j
+  pub resize_own_lem : (len : ℕ) → First (resize_own img n len) (answer_no (resize_answer img n len))
+  resize_own_lem len = grind (arith, common_steps, kinds, resize_filelike, resize_dir)
 
-  pub resize_own_lem : (len : ℕ) → First (resize_own img n len) (filed_no (resize_answer img n len))
-  resize_own_lem len = let x = kinds img n inode in go x.0 x.1
-    where
-      go : (k : FileType) → OfKind img n k → First (resize_own img n len) (filed_no (resize_answer img n len))
-      go File o = resize_filelike o tt len
-      go Dir o = ◌⊎◌.inl (o.number, ap filed_no (resize_dir o len))
-      go SymLink o = resize_filelike o tt len
-
-  pub write_own_lem : (off : ℕ) (src : List ℕ) → First (write_own img n off src) (filed_no (write_answer img n off src))
+  pub write_own_lem : (off : ℕ) (src : List ℕ) → First (write_own img n off src) (answer_no (write_answer img n off src))
   write_own_lem off src = let x = kinds img n inode in go x.0 x.1
     where
-      go : (k : FileType) → OfKind img n k → First (write_own img n off src) (filed_no (write_answer img n off src))
+      go : (k : FileType) → OfKind img n k → First (write_own img n off src) (answer_no (write_answer img n off src))
       go File o = write_filelike o tt off src (dec_lt (size img n) (end_of off src))
-      go Dir o = ◌⊎◌.inl (o.number, ap filed_no (write_dir o off src))
+      go Dir o = ◌⊎◌.inl (o.number, ap answer_no (write_dir o off src))
       go SymLink o = write_filelike o tt off src (dec_lt (size img n) (end_of off src))
 
 -- ---- the calls
 
-pub read_first : {img s s' buf buf' : List ℕ} {n off : ℕ} {r : Said} → Read img s s' buf buf' n off r → First (read_tests img s n) (said_no r)
+pub read_first : {img s s' buf buf' : List ℕ} {n off : ℕ} {r : Said} → Read img s s' buf buf' n off r → First (read_tests img s n) (answer_no r)
 read_first {img} {s} {s'} {buf} {buf'} {n} {off} c =
-    first_filed (read_own img n) c.opening (read_answer img n off (length buf)) c.said (λ w x y. read_own_lem w x off (length buf))
+    first_said (read_own img n) c.opening (read_answer img n off (length buf)) refl c.said (λ w x y. read_own_lem w x off (length buf))
 
-pub write_first : {img img' s s' src : List ℕ} {n off : ℕ} {r : Said} → Written img img' s s' src n off r → First (write_tests img s n off src) (said_no r)
+pub write_first : {img img' s s' src : List ℕ} {n off : ℕ} {r : Said} → Written img img' s s' src n off r → First (write_tests img s n off src) (answer_no r)
 write_first {img} {img'} {s} {s'} {src} {n} {off} c =
-    first_filed (write_own img n off src) c.opening (write_answer img n off src) c.said (λ w x y. write_own_lem w x off src)
+    first_said (write_own img n off src) c.opening (write_answer img n off src) refl c.said (λ w x y. write_own_lem w x off src)
 
-pub resize_first : {img img' s s' : List ℕ} {n len : ℕ} {r : Said} → Resized img img' s s' n len r → First (resize_tests img s n len) (said_no r)
-resize_first {img} {img'} {s} {s'} {n} {len} c =
-    first_filed (resize_own img n len) c.opening (resize_answer img n len) c.said (λ w x y. resize_own_lem w x len)
+pub resize_first : {img img' s s' : List ℕ} {n len : ℕ} {r : Said} → Resized img img' s s' n len r → First (resize_tests img s n len) (answer_no r)
+resize_first {img} {img'} {s} {s'} {n} {len} c = grind (arith, common_steps, giving_no, resize_own_lem)
 
-pub describe_first : {img s s' : List ℕ} {n : ℕ} {r : Said} {k z b l : ℕ} → Described img s s' n r k z b l → First (look_tests img s n) (said_no r)
-describe_first {img} {s} {s'} {n} c = rw c.said (first_open img s n n fine Done c.opening (λ w x y. refl))
+pub describe_first : {img s s' : List ℕ} {n : ℕ} {r : Said} {k z b l : ℕ} → Described img s s' n r k z b l → First (look_tests img s n) (answer_no r)
+describe_first {img} {s} {s'} {n} c = rw c.said (first_open img s n n fine (Ok 0) c.opening (λ w x y. refl))
 
--- an open card is said to be done
-open_said : (o : Opened) → of_opened o ≡ if_open o Done (of_opened o)
-open_said (Open c) = refl
-open_said ScratchShort = refl
-open_said WrongFs = refl
-open_said Damaged = refl
-open_said NoInode = refl
-
-pub check_first : {img s s' : List ℕ} {o : Opened} → Opening img s s' 1 1 o → First (look_tests img s 1) (said_no (of_opened o))
-check_first {img} {s} {s'} {o} c = rw (open_said o) (first_open img s 1 1 fine Done c (λ w x y. refl))
+pub check_first : {img s s' : List ℕ} {o : Opened} → Opening img s s' 1 1 o → First (look_tests img s 1) (answer_no o)
+check_first {img} {s} {s'} {o} c = subst (First (look_tests img s 1)) (giving_no o 0) (first_said fine c (Ok 0) refl (open_said o) (λ w x y. refl))

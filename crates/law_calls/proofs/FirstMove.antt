@@ -13,34 +13,22 @@ use Rattle.card_rules.specs.View.{entry, kids, kid}
 use Rattle.card_rules.specs.Whole.{Reached, root, down, Whole}
 use Rattle.card_rules.proofs.Views.{kids_dir}
 use Rattle.card_rules.proofs.Tree.{unnamed_root}
-use Rattle.dir_answers.specs.Answers.{acted_no, named_by}
+use Rattle.dir_answers.specs.Answers.{named_by}
 use Rattle.dir_move.specs.Move.{move_answer}
-use Rattle.dir_answers.specs.declared.Acted.{Acted}
-use Rattle.call_said.specs.Said.{said_no}
 use Rattle.call_dirs.specs.DirCalls.{Moved}
-use Rattle.call_said.specs.declared.Said.{Said}
 use Rattle.law_tree.proofs.TreeMove.{Above, top, next}
 use Rattle.law_dirs.proofs.UnlinkTests.{has_where, has_child}
 use Rattle.law_dirs.proofs.Climb.{above_not}
-use Rattle.law_dirs.proofs.MoveTests.{
-  Source,
-  CanMove,
-  MoveTests,
-  move_6,
-  move_7,
-  move_target_6,
-  move_8,
-  move_9,
-  move_10,
-  move_12,
-  move_13,
-  move_14,
-  move_done,
-  move_tests_lem,
-}
+use Rattle.law_dirs.proofs.MoveTests.{Source, CanMove, MoveTests, move_6, move_7, move_target_6, move_8}
+use Rattle.law_dirs.proofs.MoveTests.{move_9, move_10, move_12, move_13, move_14, move_done, move_tests_lem}
 use Rattle.law_calls.specs.Tests.{Tests, fine, test, First, Has, Dotted, entry_takes, Below, itself, under, move_tests}
-use Rattle.law_calls.proofs.FirstOpen.{first_acted}
+use Rattle.law_calls.proofs.FirstOpen.{first_said}
 use Rattle.law_calls.proofs.FirstDirs.{has_not, not_dotted, is_dotted, name_on, name_6, name_8, name_9, name_on_lem}
+use Rattle.call_said.specs.Said.{Said, plain}
+use Rattle.refusals.specs.Refusals.{answer_no}
+use Rattle.refusals.specs.declared.Refusal.{Refusal}
+use Rattle.refusals.proofs.Refused.{giving_no}
+use Rattle.std.specs.Prelude.{Result}
 
 -- ---- at or below c
 
@@ -86,7 +74,7 @@ room_on img p t c =
 abbrev old_on : List ℕ → ℕ → List ℕ → ℕ → Tests
 old_on img p old t = test 10 (Has img p old → ⊥) (room_on img p t (named_by img p old))
 
-abbrev move_own : List ℕ → ℕ → List ℕ → ℕ → List ℕ → Tests
+abbrev pub move_own : List ℕ → ℕ → List ℕ → ℕ → List ℕ → Tests
 move_own img p old t new = test 6 (kind img p ≢ 2) (test 7 (Dotted old) (name_on img t new (old_on img p old t)))
 
 module _ {img : List ℕ} (w : Whole img) (p : ℕ) (rp : Reached img p) (old : List ℕ) (t : ℕ) (rt : Reached img t) (new : List ℕ) where
@@ -104,31 +92,32 @@ module _ {img : List ℕ} (w : Whole img) (p : ℕ) (rp : Reached img p) (old : 
     away : (kind img (entry img p j) ≡ 2 → Above img (entry img p j) t) → ((p ≢ t) × (kind img (entry img p j) ≡ 2)) × Below img (entry img p j) t → ⊥
     away u q = above_below w (has_child w rp m.from) m.to.dir (u q.0.1) q.1
 
-  move_own_lem : {a : Acted} → MoveTests img p old t new a → First (move_own img p old t new) (acted_no a)
-  move_own_lem (move_6 d e) = ◌⊎◌.inl (d, ap acted_no e)
-  move_own_lem (move_7 d h e) = ◌⊎◌.inr (λ q. q d, ◌⊎◌.inl (is_dotted old h, ap acted_no e))
-  move_own_lem {a} (move_target_6 s d e) = source_on (acted_no a) s (name_6 img t new (old_on img p old t) (acted_no a) d (ap acted_no e))
-  move_own_lem {a} (move_8 s d n e) = source_on (acted_no a) s (name_8 img t new (old_on img p old t) (acted_no a) d n (ap acted_no e))
-  move_own_lem {a} (move_9 s d n j b q e) = source_on (acted_no a) s (name_9 img t new (old_on img p old t) (acted_no a) d n (j, b, q) (ap acted_no e))
+  move_own_lem : {a : Result Unit Refusal} → MoveTests img p old t new a → First (move_own img p old t new) (answer_no a)
+  move_own_lem (move_6 d e) = ◌⊎◌.inl (d, ap answer_no e)
+  move_own_lem (move_7 d h e) = ◌⊎◌.inr (λ q. q d, ◌⊎◌.inl (is_dotted old h, ap answer_no e))
+  move_own_lem {a} (move_target_6 s d e) = source_on (answer_no a) s (name_6 img t new (old_on img p old t) (answer_no a) d (ap answer_no e))
+  move_own_lem {a} (move_8 s d n e) = source_on (answer_no a) s (name_8 img t new (old_on img p old t) (answer_no a) d n (ap answer_no e))
+  move_own_lem {a} (move_9 s d n j b q e) = source_on (answer_no a) s (name_9 img t new (old_on img p old t) (answer_no a) d n (j, b, q) (ap answer_no e))
   move_own_lem {a} (move_10 s c n e) =
-      source_on (acted_no a) s (name_on_lem img t new (old_on img p old t) (acted_no a) c (◌⊎◌.inl (has_not img p old n, ap acted_no e)))
-  move_own_lem {a} (move_12 j m d k n e) = room_on_lem (acted_no a) j m (◌⊎◌.inl (((d, k), meets_below w rt m.to.dir n), ap acted_no e))
+      source_on (answer_no a) s (name_on_lem img t new (old_on img p old t) (answer_no a) c (◌⊎◌.inl (has_not img p old n, ap answer_no e)))
+  move_own_lem {a} (move_12 j m d k n e) = room_on_lem (answer_no a) j m (◌⊎◌.inl (((d, k), meets_below w rt m.to.dir n), ap answer_no e))
   move_own_lem {a} (move_13 j m d k u f e) =
-      room_on_lem (acted_no a) j m (◌⊎◌.inr (away j m (λ _. u), ◌⊎◌.inl (((d, k), f), ap acted_no e)))
+      room_on_lem (answer_no a) j m (◌⊎◌.inr (away j m (λ _. u), ◌⊎◌.inl (((d, k), f), ap answer_no e)))
   move_own_lem {a} (move_14 j m d u v q e) =
-      room_on_lem (acted_no a) j m (◌⊎◌.inr (away j m u, ◌⊎◌.inr (λ x. v x.0.1 x.1, ◌⊎◌.inl ((d, q), ap acted_no e))))
+      room_on_lem (answer_no a) j m (◌⊎◌.inr (away j m u, ◌⊎◌.inr (λ x. v x.0.1 x.1, ◌⊎◌.inl ((d, q), ap answer_no e))))
   move_own_lem {a} (move_done j m f e) =
-      room_on_lem (acted_no a) j m
+      room_on_lem (answer_no a) j m
       (◌⊎◌.inr (
         λ x. away j m (f x.0.0).away x,
         ◌⊎◌.inr (
           λ x. (f x.0.0).links_left_lem x.0.1 x.1,
-          ◌⊎◌.inr (λ x. omega (arith, (f x.0).room, x.1), ap acted_no e),
+          ◌⊎◌.inr (λ x. omega (arith, (f x.0).room, x.1), ap answer_no e),
         ),
       ))
 
 pub move_first : {img img' s s' : List ℕ} {p : ℕ} {old : List ℕ} {t : ℕ} {new : List ℕ} {r : Said} → Moved img img' s s' p old t new r
-    → First (move_tests img s p old t new) (said_no r)
+    → First (move_tests img s p old t new) (answer_no r)
 move_first {img} {img'} {s} {s'} {p} {old} {t} {new} c =
-    first_acted (move_own img p old t new) c.opening (move_answer (blocks img) img p old t new) c.said
+    first_said (move_own img p old t new) c.opening (plain (move_answer (blocks img) img p old t new)) (giving_no (move_answer (blocks img) img p old t new) 0)
+    c.said
     (λ w y z. move_own_lem w p y old t z new (move_tests_lem w p y old t z new))

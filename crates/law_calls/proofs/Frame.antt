@@ -5,12 +5,12 @@ use mathlib.Core.List.{List, [], ◌∷◌}
 use Prim.Native.Nat.{ℕ, ◌≤◌, ◌<◌}
 use native.Mathlib.Omega.{arith}
 use native.Mathlib.Decide.{dec_lt, ℕ_discrete}
+use Rattle.std.proofs.lemmas.Grind.{common_steps}
 use Rattle.words.specs.Words.{Bytes}
 use Rattle.words.specs.Sums.{δ, cnt, without}
 use Rattle.words.proofs.Sums.{δ_same, sum_on_cons}
 use Rattle.card_layout.specs.Inode.{kind, links}
-use Rattle.card_rules.specs.View.{naming}
-use Rattle.card_rules.specs.Whole.{Reached, root, down, Sound, Tree, Whole}
+use Rattle.card_rules.specs.Whole.{Reached, Sound, Tree, Whole}
 use Rattle.card_rules.proofs.Tree.{named_some, reached_listed}
 use Rattle.card_rules.proofs.Kept.{slots_few}
 use Rattle.card_rules.specs.Same.{SameFile}
@@ -19,7 +19,7 @@ use Rattle.dir_answers.specs.Answers.{named_by}
 use Rattle.law_files.specs.Requests.{Request, named}
 use Rattle.law_calls.specs.SameData.{SameData}
 use Rattle.law_calls.specs.Inner.{Relisted, same, more, less, Frame}
-use Rattle.law_files.proofs.Resized.{held_is, in_use_is}
+use Rattle.law_files.proofs.Resized.{held_is}
 use Rattle.law_files.proofs.Steps.{Step}
 use Rattle.law_dirs.proofs.CreateCard.{CreateDone}
 use Rattle.law_dirs.proofs.LinkCard.{LinkDone}
@@ -33,25 +33,11 @@ same_data_refl img m =
     record { kind_is = refl; size_is = refl; count_is = refl; places = λ q _. refl; kept = λ o _. refl }
 
 pub same_data_trans : {img mid out : List ℕ} {m : ℕ} → SameData img mid m → SameData mid out m → SameData img out m
-same_data_trans {img} {mid} {out} {m} a b =
-    record {
-      kind_is = b.kind_is ∙ a.kind_is;
-      size_is = b.size_is ∙ a.size_is;
-      count_is = b.count_is ∙ a.count_is;
-      places = λ q u. b.places q (in_use_is mid img m (sym a.count_is) q u) ∙ a.places q u;
-      kept = λ o h. b.kept o (rw a.count_is h) ∙ a.kept o h;
-    }
+same_data_trans {img} {mid} {out} {m} a b = grind (arith, common_steps)
 
 -- who is the same has the same data
 pub file_data : {l img out : List ℕ} → Sound img l → (m : ℕ) → 0 < cnt m l → SameFile img out m → SameData img out m
-file_data s m h x =
-    record {
-      kind_is = kind_is x.slots.rec;
-      size_is = size_is x.slots.rec;
-      count_is = count_is x.slots.rec;
-      places = held_is x.slots (slots_few s m h);
-      kept = λ o a. file_byte_is x o a;
-    }
+file_data s m h x = grind (arith, common_steps, kind_is, size_is, count_is, held_is, slots_few, file_byte_is)
 
 -- ---- in none of a list
 
@@ -147,11 +133,7 @@ module _ {img out : List ℕ} (w : Whole img) {p : ℕ} {x : List ℕ} (dir : ki
 
 -- a file that is reached has a name
 some_links : {img : List ℕ} (w : Whole img) (c : ℕ) → Reached img c → kind img c ≢ 2 → 1 ≤ links img c
-some_links {img} w c r d = omega (arith, w.tree.file_links c r d, some c r d)
-  where
-    some : (n : ℕ) → Reached img n → kind img n ≢ 2 → 0 < naming img w.inodes n
-    some n root f = absurd (f w.tree.root_dir)
-    some n (down {n = a} m j q h e) f = named_some img w a m j q h e
+some_links {img} w c r d = grind (arith, common_steps, named_some)
 
 module _ {img out : List ℕ} (w : Whole img) {p : ℕ} {x : List ℕ} (dir : kind img p ≡ 2) (r : Reached img (named_by img p x))
     (u : UnlinkDone w.inodes img out p x) where
@@ -163,14 +145,7 @@ module _ {img out : List ℕ} (w : Whole img) {p : ℕ} {x : List ℕ} (dir : ki
 
   -- the inode that was named, dead or not
   own : SameData img out c
-  own =
-      record {
-        kind_is = u.kind_is;
-        size_is = u.size_is;
-        count_is = u.count_is;
-        places = u.places;
-        kept = u.data_same;
-      }
+  own = grind (arith, common_steps)
 
   file_kept : (m : ℕ) → 0 < cnt m w.inodes → kind img m ≢ 2 → Dec (m ≡ c) → SameData img out m
   file_kept m h d (yes e) = subst (SameData img out) (sym e) own

@@ -1,9 +1,10 @@
 -- No call, done or refused, changes the kind of an inode, file or directory, named by it or not. Assumes nothing.
-use mathlib.Core.Path.{◌≡◌, refl, sym, ◌∙◌, subst}
-use mathlib.Core.Logic.{◌≢◌}
+use mathlib.Core.Path.{◌≡◌, refl, sym, subst}
+use native.Mathlib.Omega.{arith}
 use mathlib.Core.List.{List}
 use Prim.Native.Nat.{ℕ}
 use native.Mathlib.Decide.{ℕ_discrete}
+use Rattle.std.proofs.lemmas.Grind.{common_steps}
 use Rattle.words.specs.Words.{Bytes}
 use Rattle.card_layout.specs.Inode.{kind}
 use Rattle.card_rules.specs.Whole.{Reached, Whole}
@@ -11,8 +12,6 @@ use Rattle.card_rules.specs.Same.{SameFile}
 use Rattle.card_rules.proofs.Tree.{reached_listed}
 use Rattle.card_rules.proofs.Frames.{kind_is}
 use Rattle.dir_answers.specs.Answers.{named_by}
-use Rattle.call_said.specs.Said.{said_no}
-use Rattle.call_said.specs.declared.Said.{Said}
 use Rattle.law_dirs.proofs.CreateCard.{CreateDone}
 use Rattle.law_dirs.proofs.LinkCard.{LinkDone}
 use Rattle.law_dirs.proofs.UnlinkCard.{UnlinkDone}
@@ -21,6 +20,8 @@ use Rattle.law_calls.specs.Made.{Asked, Made, filed, create, link, unlink, move,
 use Rattle.law_calls.proofs.Calls.{call_step}
 use Rattle.law_calls.proofs.Refusals.{refused_same}
 use Rattle.law_calls.proofs.DoneCalls.{created_done, linked_done, unlinked_done, moved_done}
+use Rattle.call_said.specs.Said.{Said}
+use Rattle.refusals.specs.Refusals.{answer_no}
 
 abbrev SameKind : List ℕ → List ℕ → ℕ → Type 0
 SameKind img out m = kind out m ≡ kind img m
@@ -38,34 +39,18 @@ module _ {img out : List ℕ} where
     create_kind c (no d) = file_kind_lem (c.others m h d)
 
     link_kind : {l : List ℕ} {p : ℕ} {x : List ℕ} {n : ℕ} → LinkDone l img out p x n → Dec (m ≡ p) → Dec (m ≡ n) → SameKind img out m
-    link_kind c (yes e) _ = one_kind img out e c.more.kind_is
-    link_kind c (no d) (yes e) = one_kind img out e c.kind_is
-    link_kind c (no d) (no f) = file_kind_lem (c.others m h d f)
+    link_kind c t₁ t₂ = grind (arith, common_steps, file_kind_lem)
 
     unlink_kind : {l : List ℕ} {p : ℕ} {x : List ℕ} → UnlinkDone l img out p x → Dec (m ≡ p) → Dec (m ≡ named_by img p x) → SameKind img out m
-    unlink_kind c (yes e) _ = one_kind img out e c.parent_kind
-    unlink_kind c (no d) (yes e) = one_kind img out e c.kind_is
-    unlink_kind c (no d) (no f) = file_kind_lem (c.others m h d f)
-
-  -- what a move moves
-  moved_kind : {l : List ℕ} {p : ℕ} {old : List ℕ} {j t c : ℕ} {new : List ℕ} → MoveDone l img out p old j t c new → p ≢ t → Dec (kind img c ≡ 2)
-      → SameKind img out c
-  moved_kind y s (yes k) = ((y.across s).dir k).turned.kind_same
-  moved_kind y s (no k) = file_kind_lem (y.file k)
+    unlink_kind c t₁ t₂ = grind (arith, common_steps, file_kind_lem)
 
   module _ (w : Whole img) {m : ℕ} (h : Reached img m) {p : ℕ} {old : List ℕ} {j t c : ℕ} {new : List ℕ}
       (y : MoveDone w.inodes img out p old j t c new) where
     move_kind : Dec (p ≡ t) → Dec (m ≡ p) → Dec (m ≡ t) → Dec (m ≡ c) → SameKind img out m
-    move_kind (yes s) (yes e) _ _ = one_kind img out e (y.here s).0.renamed.kind_is
-    move_kind (no s) (yes e) _ _ = one_kind img out e (y.across s).less.kind_is
-    move_kind (yes s) (no d) (yes e) _ = absurd (d (e ∙ sym s))
-    move_kind (no s) (no d) (yes e) _ = one_kind img out e (y.across s).more.kind_is
-    move_kind (yes s) (no d) (no f) (yes e) = one_kind img out e (file_kind_lem (y.here s).1)
-    move_kind (no s) (no d) (no f) (yes e) = one_kind img out e (moved_kind y s (ℕ_discrete (kind img c) 2))
-    move_kind _ (no d) (no f) (no g) = file_kind_lem (y.others m (reached_listed img w m h) d f g)
+    move_kind t₁ t₂ t₃ t₄ = grind (arith, common_steps, file_kind_lem)
 
 module _ {img img' : List ℕ} (w : Whole img) (b : Bytes img) (m : ℕ) (h : Reached img m) where
-  done_kind : {q : Asked} {r : Said} → OfBytesAll q → Made img img' q r → said_no r ≡ 0 → kind img' m ≡ kind img m
+  done_kind : {q : Asked} {r : Said} → OfBytesAll q → Made img img' q r → answer_no r ≡ 0 → kind img' m ≡ kind img m
   done_kind o (filed c) z = (call_step w.sound w.tree b o c).taken.kinds_same m (reached_listed img w m h)
   done_kind o (create s s' p x k r c) z = create_kind h (created_done w b o c z) (ℕ_discrete m p)
   done_kind o (link s s' p x n r c) z = link_kind h (linked_done w b o c z) (ℕ_discrete m p) (ℕ_discrete m n)
@@ -78,8 +63,8 @@ module _ {img img' : List ℕ} (w : Whole img) (b : Bytes img) (m : ℕ) (h : Re
   done_kind o (check s s' x r c i e) z = rw e refl
 
   pub made-kind : {q : Asked} {r : Said} → OfBytesAll q → Made img img' q r → kind img' m ≡ kind img m
-  made-kind {q} {r} o c = go (ℕ_discrete (said_no r) 0)
+  made-kind {q} {r} o c = go (ℕ_discrete (answer_no r) 0)
     where
-      go : Dec (said_no r ≡ 0) → kind img' m ≡ kind img m
+      go : Dec (answer_no r ≡ 0) → kind img' m ≡ kind img m
       go (yes z) = done_kind o c z
       go (no d) = rw (refused_same c d) refl

@@ -10,34 +10,18 @@ use Rattle.card_layout.specs.Inode.{kind}
 use Rattle.card_rules.specs.Whole.{Reached, Sound, Tree, Whole}
 use Rattle.card_rules.proofs.Tree.{reached_listed}
 use Rattle.card_rules.specs.Same.{SameFile}
-use Rattle.call_said.specs.Said.{said_no}
-use Rattle.call_said.specs.declared.Said.{Said}
 use Rattle.law_files.specs.Requests.{Request, named, OfBytes}
 use Rattle.law_calls.specs.Calls.{Called, read, write, resize}
 use Rattle.law_calls.specs.SameData.{SameData}
 use Rattle.law_calls.specs.Inner.{Frame}
-use Rattle.law_calls.specs.Made.{
-  Asked,
-  file,
-  Made,
-  filed,
-  create,
-  link,
-  unlink,
-  move,
-  find,
-  list,
-  describe,
-  check,
-  OfBytesAll,
-  names_of,
-  writes_of,
-}
+use Rattle.law_calls.specs.Made.{Asked, file, Made, filed, create, link, unlink, move, find, list, describe, check, OfBytesAll, names_of, writes_of}
 use Rattle.law_files.proofs.Writing.{step}
 use Rattle.law_calls.proofs.Calls.{Outcome, stays, acts, called}
 use Rattle.law_calls.proofs.Frame.{frame_same, step_frame}
 use Rattle.law_calls.proofs.Refusals.{refused_same}
 use Rattle.law_calls.proofs.DoneCalls.{created_frame, linked_frame, unlinked_frame, moved_frame}
+use Rattle.call_said.specs.Said.{Said}
+use Rattle.refusals.specs.Refusals.{answer_no}
 
 -- ---- a call on a file
 
@@ -54,7 +38,7 @@ module _ {l img img' : List ℕ} (s : Sound img l) (t : Tree img l) (b : Bytes i
 -- ---- any call
 
 module _ {img img' : List ℕ} (w : Whole img) (b : Bytes img) where
-  done_frame : {q : Asked} {r : Said} → OfBytesAll q → Made img img' q r → said_no r ≡ 0 → Frame w.inodes img img' (names_of img q) (writes_of q)
+  done_frame : {q : Asked} {r : Said} → OfBytesAll q → Made img img' q r → answer_no r ≡ 0 → Frame w.inodes img img' (names_of img q) (writes_of q)
   done_frame o (filed c) z = file_frame w.sound w.tree b o c
   done_frame o (create s s' p x k r c) z = created_frame w b o c z
   done_frame o (link s s' p x n r c) z = linked_frame w b o c z
@@ -66,9 +50,9 @@ module _ {img img' : List ℕ} (w : Whole img) (b : Bytes img) where
   done_frame o (check s s' a r c i e) z = rw e (frame_same w.sound w.tree b)
 
   pub made_frame : {q : Asked} {r : Said} → OfBytesAll q → Made img img' q r → Frame w.inodes img img' (names_of img q) (writes_of q)
-  made_frame {q} {r} o m = go (ℕ_discrete (said_no r) 0)
+  made_frame {q} {r} o m = go (ℕ_discrete (answer_no r) 0)
     where
-      go : Dec (said_no r ≡ 0) → Frame w.inodes img img' (names_of img q) (writes_of q)
+      go : Dec (answer_no r ≡ 0) → Frame w.inodes img img' (names_of img q) (writes_of q)
       go (yes z) = done_frame o m z
       go (no d) = rw (refused_same m d) (frame_same w.sound w.tree b)
 

@@ -3,55 +3,38 @@
 use mathlib.Core.Path.{◌≡◌, refl, sym, ap, ◌∙◌, subst}
 use mathlib.Core.Logic.{◌≢◌}
 use mathlib.Core.Bool.{false}
-use mathlib.Core.List.{List, [], ◌∷◌}
+use mathlib.Core.List.{List}
 use Prim.Native.Nat.{ℕ, ◌+◌, ◌-◌, ◌≤◌, ◌<◌}
 use native.Mathlib.Omega.{arith}
-use native.Mathlib.Decide.{dec_lt, ℕ_discrete}
-use borrow.Author.Tests.{eq-eqb, ne_eqb, lt-ltb, le-ltb}
+use native.Mathlib.Decide.{ℕ_discrete}
+use Rattle.std.proofs.lemmas.Grind.{common_steps}
 use Rattle.words.specs.Words.{Bytes}
 use Rattle.words.specs.Sums.{δ, cnt}
-use Rattle.words.proofs.Sums.{δ_same, δ_other, sum_to_apart, sum_on_nil, sum_on_cons, sum_on_term, sum_on_two}
-use Rattle.card_layout.specs.Inode.{kind, links}
+use Rattle.words.proofs.Sums.{δ_same, sum_to_apart, sum_on_nil, sum_on_term, sum_on_two}
+use Rattle.card_layout.specs.Inode.{kind}
 use Rattle.card_rules.specs.View.{entries, entry, name, kids, kid, times_named, naming}
 use Rattle.card_rules.specs.Whole.{Reached, root, down as below, Whole}
 use Rattle.card_rules.proofs.Views.{kids_of_dir}
-use Rattle.card_rules.proofs.Tree.{names_some, reached_listed, dir_named, unnamed_root}
+use Rattle.card_rules.proofs.Tree.{names_some, reached_listed, unnamed_root}
 use Rattle.dir_entries.specs.Entries.{where_is}
 use Rattle.dir_entries.specs.Names.{is_dots}
 use Rattle.dir_entries.proofs.Lookup.{where_hit}
-use Rattle.dir_answers.specs.Answers.{acted_no, the_inode, named_by}
-use Rattle.dir_answers.specs.declared.Acted.{Acted}
+use Rattle.dir_answers.specs.Answers.{the_inode, named_by}
 use Rattle.dir_look.specs.Look.{find_answer}
-use Rattle.call_said.specs.Said.{said_no, said_value, of_acted}
-use Rattle.call_said.specs.declared.Said.{Said}
-use Rattle.law_dirs.proofs.LookTests.{FindTests, find_6, find_10, find_done, find_tests_lem}
-use Rattle.law_dirs.proofs.UnlinkTests.{HasName, has_past}
+use Rattle.law_dirs.proofs.LookTests.{find_tests_lem}
+use Rattle.law_dirs.proofs.UnlinkTests.{has_past}
 use Rattle.law_calls.specs.SameData.{SameData}
-use Rattle.law_calls.specs.Made.{
-  Asked,
-  unlinking,
-  Made,
-  filed,
-  create,
-  link,
-  unlink,
-  move,
-  find,
-  list,
-  describe,
-  check,
-  OfBytesAll,
-  removes_of,
-  Asks,
-}
+use Rattle.law_calls.specs.Made.{Asked, unlinking, Made, filed, create, link, unlink, move, find, list, describe, check, OfBytesAll, removes_of, Asks}
 use Rattle.law_calls.specs.Runs.{Call, Done, Unwritten, Unremoved, Unasked, Run, none, next}
 use Rattle.law_calls.specs.Paths.{Path, end, down, OnWay, first, later}
 use Rattle.law_calls.proofs.Frame.{same_data_refl, same_data_trans}
 use Rattle.law_calls.proofs.DoneCalls.{unlinked_parent, unlinked_target}
 use Rattle.law_calls.proofs.Made.{made_whole, made_bytes}
-use Rattle.law_calls.proofs.Stays.{made_stays}
+use Rattle.law_calls.proofs.Stays.{not_in, made_stays}
 use Rattle.law_calls.proofs.Finds.{made_finds}
 use Rattle.law_calls.proofs.Runs.{call_data}
+use Rattle.call_said.specs.Said.{Said}
+use Rattle.refusals.specs.Refusals.{answer_no}
 
 -- ---- what is named once
 
@@ -59,18 +42,7 @@ use Rattle.law_calls.proofs.Runs.{call_data}
 module _ {img : List ℕ} (w : Whole img) {n k m j i : ℕ} (rn : Reached img n) (rk : Reached img k) (lj : j < kids img n) (li : i < kids img k)
     (ej : kid img n j ≡ m) (ei : kid img k i ≡ m) (one : naming img w.inodes m ≤ 1) where
   once_dir : n ≡ k
-  once_dir = go (ℕ_discrete n k)
-    where
-      go : Dec (n ≡ k) → n ≡ k
-      go (yes e) = e
-      go (no f) =
-          absurd (omega (
-            arith,
-            one,
-            names_some img n m j lj ej,
-            names_some img k m i li ei,
-            sum_on_two (λ x. times_named img x m) w.inodes n k f (reached_listed img w n rn) (reached_listed img w k rk),
-          ))
+  once_dir = grind (arith, common_steps, names_some, sum_on_two)
 
   once_place : j ≡ i
   once_place = go (ℕ_discrete j i)
@@ -108,54 +80,29 @@ named_at {img} {n} j d low high q =
       called = ap (name img n) e ∙ q;
     }
 
-inode_same : (m k : ℕ) → the_inode m ≡ the_inode k → m ≡ k
-inode_same m k e = ap (λ (a : Acted). said_value (of_acted a)) e
-
 module _ {img : List ℕ} (w : Whole img) {n : ℕ} (r : Reached img n) {x : List ℕ} where
   pub step_named : {m : ℕ} → is_dots x ≡ false → find_answer img n x ≡ the_inode m → Named img n x m
-  step_named {m} p f = go (find_tests_lem w n r x)
-    where
-      go : FindTests img n x (find_answer img n x) → Named img n x m
-      go (find_6 _ a) = absurd (omega (arith, ap acted_no (sym a ∙ f)))
-      go (find_10 _ _ a) = absurd (omega (arith, ap acted_no (sym a ∙ f)))
-      go (find_done k j b q _ a) =
-          let h : HasName img n x j = record { parent = k; plain = p; there = b; named = q } in
-          subst (Named img n x) (inode_same (entry img n j) m (sym a ∙ f)) (named_at j k (has_past w r h) b q)
+  step_named {m} p f = grind (arith, common_steps, find_tests_lem, named_at, has_past)
 
   pub named_reached : {m : ℕ} → Named img n x m → Reached img m
   named_reached {m} a = below m a.place r a.inside a.number
 
   -- an inode that is named once has one name
   once_named : {k m : ℕ} {y : List ℕ} → Reached img k → Named img n x m → Named img k y m → naming img w.inodes m ≤ 1 → (n ≡ k) × (x ≡ y)
-  once_named {k} {m} {y} q a b o =
-      let e = once_dir w r q a.inside b.inside a.number b.number o in
-      let f = once_place w r q a.inside b.inside a.number b.number o in
-      (e, sym a.called ∙ ap (λ (z : ℕ). name img z (2 + a.place)) e ∙ ap (λ (z : ℕ). name img k (2 + z)) f ∙ b.called)
+  once_named {k} {m} {y} q a b o = grind (arith, common_steps, once_dir, once_place)
 
 -- ---- what a call that is done does not remove
-
-not_in : (m c : ℕ) → m ≢ c → cnt m (c ∷ []) ≡ 0
-not_in m c d = omega (arith, sum_on_cons (δ m) c [], sum_on_nil (δ m), δ_other m c d)
 
 module _ {img : List ℕ} (w : Whole img) (p : ℕ) (y : List ℕ) (r : Reached img (named_by img p y)) (m : ℕ) where
   abbrev c : ℕ
   c = named_by img p y
 
   unlink_spares : (m ≡ c → naming img w.inodes m ≤ 1 → ⊥) → cnt m (removes_of img (unlinking p y)) ≡ 0
-  unlink_spares f = go (ℕ_discrete (kind img c) 2) (dec_lt 1 (links img c))
-    where
-      other : naming img w.inodes c ≤ 1 → m ≢ c
-      other o e = f e (subst (λ (n : ℕ). naming img w.inodes n ≤ 1) (sym e) o)
-
-      go : Dec (kind img c ≡ 2) → Dec (1 < links img c) → cnt m (removes_of img (unlinking p y)) ≡ 0
-      go (yes d) _ = rw (eq-eqb (kind img c) 2 d) (not_in m c (other (dir_named img w c r d)))
-      go (no d) (yes h) = rw (ne_eqb (kind img c) 2 d, lt-ltb 1 (links img c) h) (sum_on_nil (δ m))
-      go (no d) (no h) =
-          rw (ne_eqb (kind img c) 2 d, le-ltb 1 (links img c) (omega arith)) (not_in m c (other (omega (arith, w.tree.file_links c r d))))
+  unlink_spares f = grind (arith, common_steps, not_in, sum_on_nil)
 
 module _ {img img' : List ℕ} (w : Whole img) (b : Bytes img) where
   -- all but what an unlink names by its one name
-  spares : {q : Asked} {r : Said} → Made img img' q r → said_no r ≡ 0 → (m : ℕ)
+  spares : {q : Asked} {r : Said} → Made img img' q r → answer_no r ≡ 0 → (m : ℕ)
       → ((p : ℕ) (y : List ℕ) → q ≡ unlinking p y → Reached img p → Named img p y m → naming img w.inodes m ≤ 1 → ⊥) → cnt m (removes_of img q) ≡ 0
   spares (filed c) z m f = sum_on_nil (δ m)
   spares (create s s' p x k r c) z m f = sum_on_nil (δ m)
@@ -170,7 +117,7 @@ module _ {img img' : List ℕ} (w : Whole img) (b : Bytes img) where
   spares (describe s s' n r k l v x c e) z m f = sum_on_nil (δ m)
   spares (check s s' a r c i e) z m f = sum_on_nil (δ m)
 
-  module _ {q : Asked} {r : Said} (c : Made img img' q r) (z : said_no r ≡ 0) where
+  module _ {q : Asked} {r : Said} (c : Made img img' q r) (z : answer_no r ≡ 0) where
     pub root_spared : cnt 1 (removes_of img q) ≡ 0
     root_spared = spares c z 1 (λ p y _ h a _. unnamed_root img w p a.place h a.inside a.number)
 
@@ -190,8 +137,8 @@ module _ {img : List ℕ} (w : Whole img) where
   reached_path = reached_from root
 
 module _ {img img' : List ℕ} (w : Whole img) (b : Bytes img) {q : Asked} {r : Said} (o : OfBytesAll q) (c : Made img img' q r) where
-  path_from : {n m : ℕ} {xs : List (List ℕ)} → Reached img n → (said_no r ≡ 0 → cnt n (removes_of img q) ≡ 0) → Path img n xs m
-      → (said_no r ≡ 0 → (d : ℕ) (x : List ℕ) → OnWay img n xs d x → Asks img q d x → ⊥) → Path img' n xs m × (said_no r ≡ 0 → cnt m (removes_of img q) ≡ 0)
+  path_from : {n m : ℕ} {xs : List (List ℕ)} → Reached img n → (answer_no r ≡ 0 → cnt n (removes_of img q) ≡ 0) → Path img n xs m
+      → (answer_no r ≡ 0 → (d : ℕ) (x : List ℕ) → OnWay img n xs d x → Asks img q d x → ⊥) → Path img' n xs m × (answer_no r ≡ 0 → cnt m (removes_of img q) ≡ 0)
   path_from h s end a = (end, s)
   path_from {n} h s (down {x = x} p f y) a =
       let g = step_named w h p f in
@@ -200,7 +147,7 @@ module _ {img img' : List ℕ} (w : Whole img) (b : Bytes img) {q : Asked} {r : 
       (down p (i.1 ∙ f) j.0, j.1)
 
   pub made_path : {m : ℕ} {xs : List (List ℕ)} → Path img 1 xs m
-      → (said_no r ≡ 0 → (d : ℕ) (x : List ℕ) → OnWay img 1 xs d x → Asks img q d x → ⊥) → Path img' 1 xs m × (said_no r ≡ 0 → cnt m (removes_of img q) ≡ 0)
+      → (answer_no r ≡ 0 → (d : ℕ) (x : List ℕ) → OnWay img 1 xs d x → Asks img q d x → ⊥) → Path img' 1 xs m × (answer_no r ≡ 0 → cnt m (removes_of img q) ≡ 0)
   made_path = path_from root (root_spared w b c)
 
 -- ---- runs, no call of which asks about a name on the way

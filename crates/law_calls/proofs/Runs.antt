@@ -16,8 +16,6 @@ use Rattle.card_rules.specs.Same.{SameFile}
 use Rattle.card_rules.proofs.Tree.{reached_listed}
 use Rattle.card_rules.proofs.Kept.{slots_few}
 use Rattle.card_rules.proofs.Frames.{file_refl, file_trans, inode_room}
-use Rattle.call_said.specs.Said.{said_no}
-use Rattle.call_said.specs.declared.Said.{Said}
 use Rattle.law_calls.specs.SameData.{SameData}
 use Rattle.law_calls.specs.Made.{Asked, Made, filed, create, link, unlink, move, find, list, describe, check, OfBytesAll, names_of, writes_of}
 use Rattle.law_calls.specs.Runs.{Call, Unwritten, Unremoved, Unnamed, Run, none, next, put, last_put}
@@ -27,6 +25,8 @@ use Rattle.law_calls.proofs.Refusals.{refused_same}
 use Rattle.law_calls.proofs.Made.{made_whole, made_bytes, made_isolation, made_files}
 use Rattle.law_calls.proofs.Stays.{made_stays}
 use Rattle.law_calls.proofs.KindStays.{made-kind}
+use Rattle.call_said.specs.Said.{Said}
+use Rattle.refusals.specs.Refusals.{answer_no}
 
 -- ---- whole all along
 
@@ -48,18 +48,18 @@ module _ {P : List ℕ → List ℕ → Call → Type 0} where
 
 module _ {img mid : List ℕ} (w : Whole img) (b : Bytes img) {q : Asked} {r : Said} (o : OfBytesAll q) (c : Made img mid q r) (m : ℕ) (h : Reached img m) where
   -- a file that it does not write
-  pub call_data : kind img m ≢ 2 → (said_no r ≡ 0 → cnt m (writes_of q) ≡ 0) → SameData img mid m
-  call_data d f = go (ℕ_discrete (said_no r) 0)
+  pub call_data : kind img m ≢ 2 → (answer_no r ≡ 0 → cnt m (writes_of q) ≡ 0) → SameData img mid m
+  call_data d f = go (ℕ_discrete (answer_no r) 0)
     where
-      go : Dec (said_no r ≡ 0) → SameData img mid m
+      go : Dec (answer_no r ≡ 0) → SameData img mid m
       go (yes z) = made_files w b o c m h d (f z)
       go (no e) = rw (refused_same c e) (same_data_refl img m)
 
   -- an inode that it does not name
-  pub call_file : (said_no r ≡ 0 → cnt m (names_of img q) ≡ 0) → SameFile img mid m
-  call_file f = go (ℕ_discrete (said_no r) 0)
+  pub call_file : (answer_no r ≡ 0 → cnt m (names_of img q) ≡ 0) → SameFile img mid m
+  call_file f = go (ℕ_discrete (answer_no r) 0)
     where
-      go : Dec (said_no r ≡ 0) → SameFile img mid m
+      go : Dec (answer_no r ≡ 0) → SameFile img mid m
       go (yes z) = made_isolation w b o c m h (f z)
       go (no e) = rw (refused_same c e) (file_refl img m)
 
@@ -70,7 +70,8 @@ none_in m = sum_on_nil (δ m)
 
 module _ {img mid : List ℕ} (w : Whole img) (b : Bytes img) (m : ℕ) (h : Reached img m) (d : kind img m ≢ 2) where
   -- a call that writes nothing
-  still_byte : {q : Asked} {r : Said} → OfBytesAll q → Made img mid q r → cnt m (writes_of q) ≡ 0 → (o : ℕ) → o < size img m → file_byte mid m o ≡ file_byte img m o
+  still_byte : {q : Asked} {r : Said} → OfBytesAll q → Made img mid q r → cnt m (writes_of q) ≡ 0 → (o : ℕ) → o < size img m
+      → file_byte mid m o ≡ file_byte img m o
   still_byte q c z o l = (call_data w b q c m h d (λ _. z)).kept o (omega (arith, inode_room (w.sound.inode m (reached_listed img w m h))))
 
   pub call_byte : {q : Asked} {r : Said} → OfBytesAll q → Made img mid q r → (o : ℕ) → o < size img m → o < size mid m

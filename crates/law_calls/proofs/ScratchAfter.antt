@@ -5,40 +5,20 @@ use mathlib.Core.List.{List}
 use Prim.Native.Nat.{ℕ, ◌*◌, ◌≤◌, ◌<◌}
 use native.Mathlib.Omega.{arith}
 use lib.ListN.{length}
+use Rattle.std.proofs.lemmas.Grind.{common_steps}
 use Rattle.card_layout.specs.Super.{blocks}
 use Rattle.card_rules.specs.Whole.{Sized}
-use Rattle.check_walk.specs.declared.Opened.{Opened}
-use Rattle.check_walk.specs.Opening.{cleared, Opening, whole, no_inode, damaged, scratch_short, wrong_fs, unsized}
-use Rattle.call_said.specs.declared.Said.{Said}
+use Rattle.check_walk.specs.Opening.{cleared, Opening, Opened}
 use Rattle.law_files.specs.Requests.{Request}
 use Rattle.law_calls.specs.Calls.{Called, read, write, resize}
-use Rattle.law_calls.specs.Made.{
-  Asked,
-  Made,
-  filed,
-  create,
-  link,
-  unlink,
-  move,
-  find,
-  list,
-  describe,
-  check,
-  scratch_in,
-  scratch_of,
-  scratch_out,
-  scratch_after,
-}
+use Rattle.law_calls.specs.Made.{Asked, Made, filed, create, link, unlink, move, find}
+use Rattle.law_calls.specs.Made.{list, describe, check, scratch_in, scratch_of, scratch_out, scratch_after}
+use Rattle.call_said.specs.Said.{Said}
 
 -- the scratch test is passed, or it is not
 pub scratch_after_lem : {img s s' : List ℕ} {a b : ℕ} {o : Opened} → Opening img s s' a b o
     → (Sized img → 4 * blocks img ≤ length s → s' ≡ cleared img s) × ((Sized img → length s < 4 * blocks img) → s' ≡ s)
-scratch_after_lem (whole l w x y e f) = (λ z q. f, λ h. absurd (omega (arith, h w.sound.sized)))
-scratch_after_lem (no_inode l w n e f) = (λ z q. f, λ h. absurd (omega (arith, h w.sound.sized)))
-scratch_after_lem (damaged z l n e f) = (λ y q. f, λ h. absurd (omega (arith, h z)))
-scratch_after_lem (scratch_short z l e f) = (λ y q. absurd (omega arith), λ h. f)
-scratch_after_lem (wrong_fs l n e f) = (λ z q. absurd (n z.magic_right), λ h. f)
-scratch_after_lem (unsized m n e f) = (λ z q. absurd (n z), λ h. f)
+scratch_after_lem t₁ = grind (arith, common_steps)
 
 called_scratch : {img img' : List ℕ} {q : Request} {r : Said} (c : Called img img' q r)
     → (Sized img → 4 * blocks img ≤ length (scratch_in c) → scratch_out c ≡ cleared img (scratch_in c))

@@ -1,27 +1,32 @@
 -- Only an unlink removes an inode, and only what it names by its last name: every other stays one. Assumes nothing.
-use mathlib.Core.Path.{◌≡◌, sym, subst}
+use mathlib.Core.Path.{◌≡◌}
 use mathlib.Core.Logic.{◌≢◌}
 use mathlib.Core.List.{List, [], ◌∷◌}
-use Prim.Native.Nat.{ℕ, ◌<◌}
+use Prim.Native.Nat.{ℕ}
 use native.Mathlib.Omega.{arith}
-use native.Mathlib.Decide.{dec_lt, ℕ_discrete}
+use native.Mathlib.Decide.{ℕ_discrete}
 use lib.Dec.{eqb, ltb}
-use borrow.Author.Tests.{eq-eqb, ne_eqb, le-ltb}
+use Rattle.std.proofs.lemmas.Grind.{common_steps}
 use Rattle.words.specs.Words.{Bytes}
 use Rattle.words.specs.Sums.{δ, cnt}
-use Rattle.words.proofs.Sums.{δ_same, sum_on_nil, sum_on_cons}
+use Rattle.words.proofs.Sums.{δ_same, δ_other, sum_on_nil, sum_on_cons}
 use Rattle.card_layout.specs.Inode.{kind, links}
 use Rattle.card_rules.specs.Whole.{Reached, Whole}
 use Rattle.card_rules.proofs.Tree.{reached_listed}
 use Rattle.dir_answers.specs.Answers.{named_by}
 use Rattle.file_blocks.proofs.Picks.{pick-both}
-use Rattle.call_said.specs.Said.{said_no, said_value}
-use Rattle.call_said.specs.declared.Said.{Said}
-use Rattle.law_calls.specs.Made.{Asked, file, creating, linking, unlinking, moving, finding, listing, describing, checking, Made, filed, create, link, unlink, move, find, list, describe, check, OfBytesAll, names_of, removes_of}
+use Rattle.call_said.specs.Said.{said_value, Said}
+use Rattle.law_calls.specs.Made.{Asked, file, creating, linking, unlinking, moving, finding, listing, describing, checking, Made, filed}
+use Rattle.law_calls.specs.Made.{create, link, unlink, move, find, list, describe, check, OfBytesAll, names_of, removes_of}
 use Rattle.law_dirs.proofs.UnlinkCard.{UnlinkDone}
 use Rattle.law_calls.proofs.Calls.{call_tree}
 use Rattle.law_calls.proofs.Refusals.{refused_same}
 use Rattle.law_calls.proofs.DoneCalls.{created_done, linked_done, unlinked_done, moved_done}
+use Rattle.refusals.specs.Refusals.{answer_no}
+
+-- a list of one has no other
+pub not_in : (m c : ℕ) → m ≢ c → cnt m (c ∷ []) ≡ 0
+not_in m c d = omega (arith, sum_on_cons (δ m) c [], sum_on_nil (δ m), δ_other m c d)
 
 -- who is removed stands in the list
 one_of : (m c : ℕ) → m ≡ c → cnt m (c ∷ []) ≢ 0
@@ -33,22 +38,14 @@ module _ {img out : List ℕ} (p : ℕ) (x : List ℕ) (l : List ℕ) (u : Unlin
 
   -- what was named stays where it is no directory and has another name
   unlinked_stays : (m : ℕ) → Reached img m → cnt m (removes_of img (unlinking p x)) ≡ 0 → Reached out m
-  unlinked_stays m r z = go (ℕ_discrete m c)
-    where
-      named : m ≡ c → Dec (kind img c ≡ 2) → Dec (1 < links img c) → Reached out m
-      named e (yes d) _ = absurd (one_of m c e (rw (eq-eqb (kind img c) 2 d) at z))
-      named e (no d) (yes h) = subst (Reached out) (sym e) (u.still d (omega arith)).reached
-      named e (no d) (no h) = absurd (one_of m c e (rw (ne_eqb (kind img c) 2 d, le-ltb 1 (links img c) (omega arith)) at z))
-
-      go : Dec (m ≡ c) → Reached out m
-      go (yes e) = named e (ℕ_discrete (kind img c) 2) (dec_lt 1 (links img c))
-      go (no d) = u.reached_still m r d
+  unlinked_stays m r z = grind (arith, common_steps, one_of)
 
 module _ {img img' : List ℕ} (w : Whole img) (b : Bytes img) where
-  done_stays : {q : Asked} {r : Said} → OfBytesAll q → Made img img' q r → said_no r ≡ 0 → (m : ℕ) → Reached img m → cnt m (removes_of img q) ≡ 0
+  done_stays : {q : Asked} {r : Said} → OfBytesAll q → Made img img' q r → answer_no r ≡ 0 → (m : ℕ) → Reached img m → cnt m (removes_of img q) ≡ 0
       → Reached img' m
   done_stays o (filed c) z m h n = (call_tree w.sound w.tree b o c).only m (reached_listed img w m h)
-  done_stays o (create s s' p x k r c) z m h n = (created_done w b o c z).tree.only m (omega (arith, sum_on_cons (δ m) (said_value r) w.inodes, reached_listed img w m h))
+  done_stays o (create s s' p x k r c) z m h n =
+      (created_done w b o c z).tree.only m (omega (arith, sum_on_cons (δ m) (said_value r) w.inodes, reached_listed img w m h))
   done_stays o (link s s' p x k r c) z m h n = (linked_done w b o c z).tree.only m (reached_listed img w m h)
   done_stays o (unlink s s' p x r c) z m h n = unlinked_stays p x w.inodes (unlinked_done w b c z) m h n
   done_stays o (move s s' p old t new r c) z m h n = (moved_done w b o c z).tree.only m (reached_listed img w m h)
@@ -57,11 +54,11 @@ module _ {img img' : List ℕ} (w : Whole img) (b : Bytes img) where
   done_stays o (describe s s' n' r k l v y c e) z m h n = rw e h
   done_stays o (check s s' a r c i e) z m h n = rw e h
 
-  pub made_stays : {q : Asked} {r : Said} → OfBytesAll q → Made img img' q r → (m : ℕ) → Reached img m → (said_no r ≡ 0 → cnt m (removes_of img q) ≡ 0)
+  pub made_stays : {q : Asked} {r : Said} → OfBytesAll q → Made img img' q r → (m : ℕ) → Reached img m → (answer_no r ≡ 0 → cnt m (removes_of img q) ≡ 0)
       → Reached img' m
-  made_stays {q} {r} o c m h n = go (ℕ_discrete (said_no r) 0)
+  made_stays {q} {r} o c m h n = go (ℕ_discrete (answer_no r) 0)
     where
-      go : Dec (said_no r ≡ 0) → Reached img' m
+      go : Dec (answer_no r ≡ 0) → Reached img' m
       go (yes z) = done_stays o c z m h (n z)
       go (no d) = rw (refused_same c d) h
 

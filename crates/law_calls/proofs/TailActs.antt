@@ -1,15 +1,15 @@
 -- "Bytes past its last block are never .. changed" (RULES): the acts of the calls, over the steps of TailSteps. An act needs inode numbers below the block
 -- count, and lengths that a file's slots can hold. Assumes nothing.
 use mathlib.Core.Path.{◌≡◌, refl}
-use mathlib.Core.Bool.{true, false}
-use mathlib.Core.List.{List, []}
+use mathlib.Core.Bool.{false}
+use mathlib.Core.List.{List}
 use Prim.Native.Nat.{ℕ, ◌+◌, ◌-◌, ◌*◌, ◌/◌, ◌≤◌, ◌<◌}
 use native.Mathlib.Omega.{arith}
 use lib.Dec.{eqb, ltb}
 use lib.ListN.{length}
-use Rattle.words.specs.Words.{pick}
+use Rattle.std.proofs.lemmas.Grind.{common_steps}
 use Rattle.card_layout.specs.Sizes.{fewest, blocks_for}
-use Rattle.card_layout.specs.Inode.{encoded, directs, new_inode, with_links, with_indirect, with_double}
+use Rattle.card_layout.specs.Inode.{encoded, directs, new_inode, with_links}
 use Rattle.card_layout.specs.Entry.{entry_of}
 use Rattle.card_layout.specs.declared.inode.FileType.{FileType}
 use Rattle.card_layout.specs.declared.inode.Head.{Head}
@@ -19,10 +19,9 @@ use Rattle.card_map.specs.Free.{taken, lowest}
 use Rattle.file_blocks.specs.Taking.{next_free, less_indirect, less_double}
 use Rattle.file_blocks.proofs.Picks.{pick-both}
 use Rattle.file_requests.specs.Resizing.{growth, lengthened, file_blocks, shorter, fitted, new_zero, resized}
-use Rattle.file_requests.specs.Requests.{longest, record_with, reaching}
+use Rattle.file_requests.specs.Requests.{longest, reaching}
 use Rattle.dir_entries.specs.Entries.{entry_at, entry_put, appended, removed}
 use Rattle.dir_entries.specs.Names.{dot, dots}
-use Rattle.dir_answers.specs.Answers.{is_dir}
 use Rattle.dir_create.specs.Create.{file_kind, fresh_inode, made_file, bare_dir, empty_dir, made_dir, made}
 use Rattle.dir_link.specs.Link.{linked}
 use Rattle.dir_unlink.specs.Unlink.{links_left, parent_less, dropped, unlinked}
@@ -40,10 +39,7 @@ twelve_at img n = length-words 12 img (4096 * n + 12)
 -- "indirect and double indirect .. become 0": the direct slots stay
 less_twelve : (b a : ℕ) (d : DiskINode) → Twelve d → Twelve (less_double b a (less_indirect b a d))
 unfolding less_indirect less_double
-less_twelve b a d e = two _ (pick-both Twelve (ltb b 12) _ d (pick-both Twelve (ltb a 12) d (with_indirect d 0) e e) e)
-  where
-    two : (x : DiskINode) → Twelve x → Twelve (pick (ltb b 1036) (pick (ltb a 1036) x (with_double x 0)) x)
-    two x q = pick-both Twelve (ltb b 1036) _ x (pick-both Twelve (ltb a 1036) x (with_double x 0) q q) q
+less_twelve b a d e = grind (arith, common_steps)
 
 fresh_below : (nb : ℕ) → fewest ≤ nb → (img : List ℕ) → fresh_inode nb img < nb
 unfolding next_free
@@ -74,9 +70,7 @@ module _ (nb : ℕ) (few : fewest ≤ nb) (img : List ℕ) where
 
     -- the new bytes up to z zero
     tail_zeroed : (len z : ℕ) → len ≤ longest + 260 → Tailed nb img (new_zero nb n d z (fitted nb n d len x))
-    tail_zeroed len z l =
-        let f = tail_fitted len l in
-        pick-both (Tailed nb img) (ltb d.head.size z) _ _ (tail_filled nb few img true [] d.head.size z n _ f) f
+    tail_zeroed len z l = grind (arith, common_steps, tail_fitted, tail_filled)
 
     pub tail_resized : (len : ℕ) → len ≤ longest + 260 → Tailed nb img (resized nb n d len x)
     unfolding resized
@@ -175,8 +169,4 @@ module _ (nb : ℕ) (few : fewest ≤ nb) (img : List ℕ) where
 
     pub tail_moved : (s g h : Head) → s.size ≤ longest → h.size ≤ longest → Tailed nb img (moved nb p s k c g t h new y)
     unfolding moved
-    tail_moved s g h l m =
-        pick-both (Tailed nb img) (eqb p t) _ _ (tail_entry_put p k (entry_of c new) y u)
-        (pick-both (Tailed nb img) (is_dir g.type_) _ _
-        (tail_moved_dir (record_with y p s) (record_with y t h) (twelve_at y p) (twelve_at y t) l m)
-        (tail_moved_file (record_with y p s) (record_with y t h) (twelve_at y p) (twelve_at y t) l m))
+    tail_moved s g h l m = grind (arith, common_steps, tail_entry_put, tail_moved_dir, twelve_at, tail_moved_file)

@@ -5,7 +5,6 @@ use mathlib.Core.Bool.{false}
 use mathlib.Core.List.{List}
 use Prim.Native.Nat.{ℕ, ◌*◌, ◌≤◌, ◌<◌}
 use native.Mathlib.Omega.{arith}
-use native.Mathlib.Decide.{dec_lt}
 use lib.ListN.{length}
 use Rattle.words.specs.Words.{byte, Bytes}
 use Rattle.card_layout.specs.Sizes.{fewest}
@@ -14,41 +13,37 @@ use Rattle.card_layout.specs.Inode.{size, head_at, decoded}
 use Rattle.card_layout.specs.declared.inode.FileType.{FileType}
 use Rattle.card_layout.specs.declared.inode.Head.{Head}
 use Rattle.card_rules.specs.Whole.{Reached, Whole}
-use Rattle.check_walk.specs.declared.Opened.{Opened}
-use Rattle.check_walk.specs.declared.Opened.TheVariants.{Open, ScratchShort, WrongFs, Damaged, NoInode}
-use Rattle.check_walk.specs.Opening.{Opening}
-use Rattle.file_requests.specs.Requests.{filed_no, longest, by_file, judged, on_done, record_with, resize_card, end_of, write_judged, write_card}
-use Rattle.file_requests.specs.declared.Filed.{Filed}
+use Rattle.check_walk.specs.Opening.{Opening, Opened}
+use Rattle.file_requests.proofs.Answers.{judged-within, write-past}
+use Rattle.file_requests.specs.Requests.{longest, by_file, judged, record_with, resize_card, end_of, write_judged, write_card}
 use Rattle.dir_entries.specs.Entries.{where_is}
-use Rattle.dir_answers.specs.Answers.{acted_no, if_done, of_head, named_by}
+use Rattle.dir_answers.specs.Answers.{of_head, named_by}
 use Rattle.dir_create.specs.Create.{create_answer, create_card}
 use Rattle.dir_link.specs.Link.{link_answer, link_card}
 use Rattle.dir_unlink.specs.Unlink.{unlink_answer, unlinked_at, unlink_card}
 use Rattle.dir_move.specs.Move.{move_answer, moved_at, move_card}
-use Rattle.dir_answers.specs.declared.Acted.{Acted}
 use Rattle.dir_answers.proofs.Ready.{below_ready, size_ready}
-use Rattle.call_said.specs.Said.{if_open}
-use Rattle.call_said.specs.declared.Said.{Said}
 use Rattle.call_said.proofs.Opened.{ready}
 use Rattle.law_files.specs.Requests.{Request}
 use Rattle.law_calls.specs.Calls.{Called, read, write, resize}
 use Rattle.law_calls.specs.Made.{Asked, Made, filed, create, link, unlink, move, find, list, describe, check}
 use Rattle.law_calls.specs.Runs.{Call, Run, none, next}
 use Rattle.law_calls.specs.Tail.{Tailed}
-use Rattle.law_calls.proofs.Both.{both_if, both_done, both_head, both_file}
-use Rattle.law_files.proofs.Requests.{judged-long, write-past}
+use Rattle.law_calls.proofs.Both.{both_if, both_head, both_file}
 use Rattle.law_dirs.proofs.UnlinkTests.{target}
 use Rattle.law_calls.proofs.Made.{made_frame, made_whole, made_bytes}
 use Rattle.law_calls.proofs.TailSteps.{tailed_refl, tailed_trans, tail_filled}
 use Rattle.law_calls.proofs.TailActs.{twelve_at, tail_resized, tail_reaching, tail_made, tail_linked, tail_unlinked, tail_moved}
+use Rattle.call_said.specs.Said.{Said}
+use Rattle.refusals.specs.Refusals.{answer_no, if_done}
+use Rattle.refusals.specs.declared.Refusal.{Refusal}
+use Rattle.std.specs.Prelude.{Result, Ok, Err}
+use Rattle.refusals.proofs.Refused.{done_is}
 
 -- ---- what a call leaves, by its tests
 
-if_done_lem : {A : Type 0} (P : A → Type 0) (a : Acted) (x r : A) → (acted_no a ≡ 0 → P x) → P r → P (if_done a x r)
+if_done_lem : {A B : Type 0} (P : A → Type 0) (a : Result B Refusal) (x r : A) → (answer_no a ≡ 0 → P x) → P r → P (if_done a x r)
 if_done_lem P a x r p q = both_if (λ x _. P x) a x x r r p q
-
-on-done : {A : Type 0} (P : A → Type 0) (f : Filed) (x r : A) → (filed_no f ≡ 0 → P x) → P r → P (on_done f x r)
-on-done P f x r p q = both_done (λ x _. P x) f x x r r p q
 
 -- whatever kind the record is of
 module _ {A : Type 0} (P : A → Type 0) (img : List ℕ) (n : ℕ) (r : A) (f : Head → A) (p : (k : FileType) → P (f (head_at img n k))) (q : P r) where
@@ -59,15 +54,11 @@ module _ {A : Type 0} (P : A → Type 0) (img : List ℕ) (n : ℕ) (r : A) (f :
   of_file = both_file (λ x _. P x) img n r r f f p q
 
 -- 12: "a file's new length above 4,294,967,295"
-pub judged_small : (u : ℕ) (h : Head) (len : ℕ) → filed_no (judged u h len) ≡ 0 → len ≤ longest
-judged_small u h len e = go (dec_lt longest len)
-  where
-    go : Dec (longest < len) → len ≤ longest
-    go (yes a) = absurd (omega (arith, ap filed_no (judged-long u h len a)))
-    go (no a) = omega arith
+pub judged_small : (u : ℕ) (h : Head) (len : ℕ) → answer_no (judged u h len) ≡ 0 → len ≤ longest
+judged_small u h len e = judged-within u h len (done_is (judged u h len) e)
 
-pub write_small : (u : ℕ) (h : Head) (end : ℕ) → filed_no (write_judged u h end) ≡ 0 → h.size < end → end ≤ longest
-write_small u h end e l = judged_small u h end (ap filed_no (sym (write-past u h end l)) ∙ e)
+pub write_small : (u : ℕ) (h : Head) (end : ℕ) → answer_no (write_judged u h end) ≡ 0 → h.size < end → end ≤ longest
+write_small u h end e l = judged_small u h end (ap answer_no (sym (write-past u h end l)) ∙ e)
 
 -- ---- the cards of the calls
 
@@ -93,7 +84,7 @@ module _ {img : List ℕ} (w : Whole img) where
     tail_resize_card len =
         of_file Kept img n img _
         (λ k.
-        on-done Kept (judged (unused img) (head_at img n k) len) _ img
+        if_done_lem Kept (judged (unused img) (head_at img n k) len) _ img
         (λ e.
         tail_resized (blocks img) few img n here (record_with img n (head_at img n k)) (twelve_at img n) img start len
         (omega (arith, judged_small (unused img) (head_at img n k) len e)))
@@ -105,7 +96,7 @@ module _ {img : List ℕ} (w : Whole img) where
     tail_write_card off src =
         of_file Kept img n img _
         (λ k.
-        on-done Kept (write_judged (unused img) (head_at img n k) (end_of off src)) _ img
+        if_done_lem Kept (write_judged (unused img) (head_at img n k) (end_of off src)) _ img
         (λ e.
         tail_filled (blocks img) few img false src off (end_of off src) n _
         (tail_reaching (blocks img) few img n here (record_with img n (head_at img n k)) (twelve_at img n) img start off (end_of off src)
@@ -171,7 +162,8 @@ module _ {img : List ℕ} (w : Whole img) where
         (λ m.
         of_head_lem Kept img c img _
         (λ g.
-        tail_moved (blocks img) few img n here (where_is img n old) c t (below_ready img w t q) new img start (head_at img n k) (head_at img c g) (head_at img t m)
+        tail_moved (blocks img) few img n here (where_is img n old) c t (below_ready img w t q) new img start (head_at img n k)
+        (head_at img c g) (head_at img t m)
         small
         (omega (arith, size_ready img w t q)))
         start)
@@ -184,12 +176,9 @@ module _ {img : List ℕ} (w : Whole img) where
 module _ {img img' : List ℕ} where
   -- on a card that is not open nothing is done
   opened : {s s' out : List ℕ} {a b : ℕ} (o : Opened) → Opening img s s' a b o → (Whole img → Reached img a → Reached img b → Tailed (blocks img) img out)
-      → img' ≡ if_open o out img → Tailed (blocks img) img img'
-  opened (Open c) x f e = let y = ready c x refl in rw e (f y.card y.first y.second)
-  opened ScratchShort x f e = rw e (tailed_refl (blocks img) img)
-  opened WrongFs x f e = rw e (tailed_refl (blocks img) img)
-  opened Damaged x f e = rw e (tailed_refl (blocks img) img)
-  opened NoInode x f e = rw e (tailed_refl (blocks img) img)
+      → img' ≡ if_done o out img → Tailed (blocks img) img img'
+  opened (Ok c) x f e = let y = ready c x refl in rw e (f y.card y.first y.second)
+  opened (Err v) x f e = rw e (tailed_refl (blocks img) img)
 
   called_tailed : {q : Request} {r : Said} → Called img img' q r → Tailed (blocks img) img img'
   called_tailed (read s s' buf buf' n off r c e) = rw e (tailed_refl (blocks img) img)

@@ -1,30 +1,33 @@
--- "Bytes past its last block are never .. changed" (RULES): the steps of growth, shrinking and filling, on any bytes. Each lemma says that what leaves the bytes
--- past the blocks still does so after one more step; a step needs no more of the card than that the definitions test its numbers. Assumes nothing.
+-- "Bytes past its last block are never .. changed" (RULES): the steps of growth, shrinking and filling, on any bytes. Each lemma says that what leaves the
+-- bytes past the blocks still does so after one more step; a step needs no more of the card than that the definitions test its numbers. Assumes nothing.
 use mathlib.Core.Path.{◌≡◌, refl, ◌∙◌}
-use mathlib.Core.Bool.{Bool, true, false}
+use mathlib.Core.Bool.{Bool}
 use mathlib.Core.List.{List}
 use Prim.Native.Nat.{ℕ, ◌+◌, ◌-◌, ◌*◌, ◌≤◌, ◌<◌, min}
 use native.Mathlib.Omega.{arith}
 use lib.Dec.{ltb}
 use lib.ListN.{length, length-set}
-use Rattle.words.specs.Words.{pick, byte, word, put_word}
+use Rattle.std.proofs.lemmas.Grind.{common_steps}
+use Rattle.words.specs.Words.{pick, word, put_word}
 use Rattle.words.specs.Runs.{turns}
 use Rattle.words.proofs.Numbers.{length-put, byte_out}
 use Rattle.words.proofs.Runs.{byte-copied_off, byte-zeroed_off, turns_keep}
 use Rattle.card_layout.specs.Sizes.{fewest}
-use Rattle.card_layout.specs.Inode.{indirect, double, encoded, put_front, put_back}
+use Rattle.card_layout.specs.Inode.{indirect, encoded, put_front, put_back}
 use Rattle.card_layout.specs.Slots.{seconds}
 use Rattle.card_layout.specs.declared.inode.DiskINode.{DiskINode}
 use Rattle.card_layout.proofs.Words.{length-put_words, byte_out_words}
 use Rattle.card_layout.proofs.InodeLaws.{byte_front_off, byte_back_off}
-use Rattle.card_map.specs.Free.{lowest, taken_at, taken, freed}
+use Rattle.card_map.specs.Free.{taken, freed}
 use Rattle.card_map.proofs.Laws.{length-taken_at, length-freed, byte-taken_at_off, byte-freed_off}
 use Rattle.file_blocks.specs.Bytes.{put, piece_fill, run_fill, direct_fill, indirect_fill, level_fill, double_fill, filled}
-use Rattle.file_blocks.specs.Taking.{Cursor, Growing, next_of, into_word, into_direct, into_indirect, into_double, moved, grow_run, grow_indirect, grow_double, grow_level, grow_direct, grow_single, grow_part, grow_twofold, grown, freed_in, free_run, free_direct, free_single, free_part, free_twofold, free_indirect, free_level, free_double, shrunk}
-use Rattle.file_blocks.specs.Ranges.{part_from, part_to, parts_from, parts_to}
+use Rattle.file_blocks.specs.Taking.{Cursor, Growing, next_of, into_word, into_direct, moved, grow_run}
+use Rattle.file_blocks.specs.Taking.{grow_indirect, grow_double, grow_level, grow_direct, grow_single, grow_part, grow_twofold, grown, freed_in}
+use Rattle.file_blocks.specs.Taking.{free_run, free_direct, free_single, free_part, free_twofold, free_indirect, free_level, free_double, shrunk}
+use Rattle.file_blocks.specs.Ranges.{parts_from, parts_to}
 use Rattle.file_blocks.proofs.Picks.{pick-both}
 use Rattle.file_blocks.proofs.Lengths.{length-put as length-piece}
-use Rattle.file_blocks.proofs.Growth.{seconds_up, level_run, single_run, part_run, twofold_turn, twofold_run}
+use Rattle.file_blocks.proofs.Growth.{seconds_up, twofold_turn, twofold_run}
 use Rattle.law_calls.specs.Tail.{Tailed}
 use Rattle.law_calls.proofs.Both.{both_below}
 
@@ -52,34 +55,15 @@ module _ (nb : ℕ) (few : fewest ≤ nb) (img : List ℕ) where
 
   pub tail_encoded : (n : ℕ) (d : DiskINode) (x : List ℕ) → n < nb → length d.direct ≡ 12 → Tailed nb img x → Tailed nb img (encoded x n d)
   unfolding encoded put_front put_back
-  tail_encoded n d x l e t =
-      record {
-        length_same = simp (length-put_words, length-put) t.length_same;
-        past = λ j a.
-            byte_back_off _ (4096 * n) d.head j (λ p q. omega arith)
-            ∙ byte_out_words _ (4096 * n + 12) d.direct j (λ p q. omega arith)
-            ∙ byte_front_off x (4096 * n) d.head j (λ p q. omega arith)
-            ∙ t.past j a;
-      }
+  tail_encoded n d x l e t = grind (arith, common_steps, length-put_words, length-put, byte_back_off, byte_out_words, byte_front_off)
 
   -- the unused count is in block 0, and the bit of a block of the card in the map
   pub tail_taken : (i : ℕ) (x : List ℕ) → Tailed nb img x → Tailed nb img (taken x i nb)
   unfolding taken
-  tail_taken i x t =
-      below_keeps (Tailed nb img) (lowest x i nb) nb (taken_at x (lowest x i nb)) x
-      (λ l.
-      record {
-        length_same = length-taken_at x (lowest x i nb) ∙ t.length_same;
-        past = λ j a. byte-taken_at_off x (lowest x i nb) j (λ p q. omega arith) (λ e. omega arith) ∙ t.past j a;
-      })
-      t
+  tail_taken i x t = grind (arith, common_steps, length-taken_at, byte-taken_at_off)
 
   pub tail_freed : (b : ℕ) (x : List ℕ) → b < nb → Tailed nb img x → Tailed nb img (freed x b)
-  tail_freed b x l t =
-      record {
-        length_same = length-freed x b ∙ t.length_same;
-        past = λ j a. byte-freed_off x b j (λ p q. omega arith) (λ e. omega arith) ∙ t.past j a;
-      }
+  tail_freed b x l t = grind (arith, common_steps, length-freed, byte-freed_off)
 
   tail_freed_in : (b : ℕ) (x : List ℕ) → Tailed nb img x → Tailed nb img (freed_in nb b x)
   tail_freed_in b x t = below_keeps (Tailed nb img) b nb (freed x b) x (λ l. tail_freed b x l t) t
@@ -109,12 +93,7 @@ module _ (nb : ℕ) (few : fewest ≤ nb) (img : List ℕ) where
 
     tail_free_twofold : Tailed nb img (free_twofold nb d b a x)
     unfolding free_twofold
-    tail_free_twofold =
-        pick-both (Tailed nb img) (ltb d.head.db_indirect.0 nb) _ x
-        (loop_keeps (λ q y. free_part nb (word y (4096 * d.head.db_indirect.0 + 4 * q)) b a q y) (parts_from b) (parts_to a - parts_from b) x
-        (λ q y u. tail_free_part (word y (4096 * d.head.db_indirect.0 + 4 * q)) b a q y u)
-        t)
-        t
+    tail_free_twofold = grind (arith, common_steps, loop_keeps, tail_free_part)
 
     tail_free_indirect : Tailed nb img (free_indirect nb d b a x)
     unfolding free_indirect
@@ -132,19 +111,12 @@ module _ (nb : ℕ) (few : fewest ≤ nb) (img : List ℕ) where
 
   pub tail_shrunk : (n : ℕ) (d : DiskINode) (b a : ℕ) (x : List ℕ) → Tailed nb img x → Tailed nb img (shrunk nb n d b a x)
   unfolding shrunk
-  tail_shrunk n d b a x t =
-      tail_free_double n d b a _
-      (tail_free_level n d b a _
-      (tail_free_indirect n d b a _ (tail_free_twofold n d b a _ (tail_free_single n d b a _ (tail_free_direct n d b a x t)))))
+  tail_shrunk n d b a x t = grind (arith, common_steps, tail_free_double, tail_free_level, tail_free_indirect, tail_free_twofold, tail_free_single, tail_free_direct)
 
   -- ---- filling: a piece ends with its block
 
   tail_put : (z : Bool) (src : List ℕ) (at k from : ℕ) (x : List ℕ) → (0 < k → at + k ≤ 4096 * nb) → Tailed nb img x → Tailed nb img (put z src at k from x)
-  tail_put z src at k from x l t = record { length_same = length-piece z src at k from x ∙ t.length_same; past = λ j a. off z j a ∙ t.past j a }
-    where
-      off : (z : Bool) (j : ℕ) → 4096 * nb ≤ j → byte (put z src at k from x) j ≡ byte x j
-      off true j a = byte-zeroed_off x at k j (λ p q. omega (arith, l (omega arith)))
-      off false j a = byte-copied_off x at src from k j (λ p q. omega (arith, l (omega arith)))
+  tail_put z src at k from x l t = grind (arith, common_steps, length-piece, byte-zeroed_off, byte-copied_off)
 
   module _ (z : Bool) (src : List ℕ) (off end : ℕ) where
     tail_piece : (b j : ℕ) (x : List ℕ) → Tailed nb img x → Tailed nb img (piece_fill z src nb b off end j x)
@@ -164,10 +136,7 @@ module _ (nb : ℕ) (few : fewest ≤ nb) (img : List ℕ) where
 
     tail_twofold : (n : ℕ) (x : List ℕ) → Tailed nb img x → Tailed nb img (double_fill z src nb n off end x)
     unfolding double_fill
-    tail_twofold n x t =
-        pick-both (Tailed nb img) (ltb (double x n) nb) _ x
-        (loop_keeps _ _ _ x (λ q y u. tail_level (word y (4096 * double x n + 4 * q)) q y u) t)
-        t
+    tail_twofold n x t = grind (arith, common_steps, loop_keeps, tail_level)
 
     pub tail_filled : (n : ℕ) (x : List ℕ) → Tailed nb img x → Tailed nb img (filled z src nb n off end x)
     unfolding filled direct_fill
@@ -186,10 +155,7 @@ module _ (nb : ℕ) (few : fewest ≤ nb) (img : List ℕ) where
 
   tail_grow_part : (s a b q : ℕ) (c : Cursor) → Tailed nb img c.img → Tailed nb img (grow_part nb s a b q c).img
   unfolding grow_part
-  tail_grow_part s a b q c t =
-      below_keeps (λ y. Tailed nb img y.img) s nb (part_run nb s a b q c) c
-      (λ l. tail_grow_run (4096 * s + 4 * (part_from a q - (1036 + 1024 * q))) (part_to b q - part_from a q) c (λ p. omega arith) t)
-      t
+  tail_grow_part s a b q c t = grind (arith, common_steps, tail_grow_run)
 
   -- the card, and the record, which has twelve direct slots
   pub record Growable (g : Growing) : Type 0 where
@@ -202,29 +168,15 @@ module _ (nb : ℕ) (few : fewest ≤ nb) (img : List ℕ) where
 
     tail_grow_indirect : Growable (grow_indirect nb a b g)
     unfolding grow_indirect
-    tail_grow_indirect =
-        pick-both Growable (ltb a 12) (pick (ltb b 12) g (into_indirect nb g)) g
-        (pick-both Growable (ltb b 12) g (into_indirect nb g) t (record { card = card-taken; twelve = t.twelve }))
-        t
+    tail_grow_indirect = grind (arith, common_steps, card-taken)
 
     tail_grow_double : Growable (grow_double nb a b g)
     unfolding grow_double
-    tail_grow_double =
-        pick-both Growable (ltb a 1036) (pick (ltb b 1036) g (into_double nb g)) g
-        (pick-both Growable (ltb b 1036) g (into_double nb g) t (record { card = card-taken; twelve = t.twelve }))
-        t
+    tail_grow_double = grind (arith, common_steps, card-taken)
 
     tail_grow_level : b < 1049612 → Growable (grow_level nb a b g)
     unfolding grow_level
-    tail_grow_level h =
-        let p = g.inode.head.db_indirect.0 in
-        below_keeps Growable p nb (moved g (level_run nb a b g)) g
-        (λ l.
-        record {
-          card = tail_grow_run (4096 * p + 4 * seconds a) (seconds b - seconds a) g.cur (λ q. omega (arith, seconds-few b h)) t.card;
-          twelve = t.twelve;
-        })
-        t
+    tail_grow_level h = grind (arith, common_steps, tail_grow_run, seconds-few)
 
     tail_grow_direct : Growable (grow_direct nb a b g)
     unfolding grow_direct
@@ -238,10 +190,7 @@ module _ (nb : ℕ) (few : fewest ≤ nb) (img : List ℕ) where
 
     tail_grow_single : Growable (grow_single nb a b g)
     unfolding grow_single
-    tail_grow_single =
-        below_keeps Growable g.inode.head.indirect.0 nb (moved g (single_run nb a b g)) g
-        (λ l. record { card = tail_grow_run _ _ g.cur (λ q. omega arith) t.card; twelve = t.twelve })
-        t
+    tail_grow_single = grind (arith, common_steps, tail_grow_run)
 
     tail_grow_twofold : Growable (grow_twofold nb a b g)
     unfolding grow_twofold

@@ -1,12 +1,13 @@
 -- "Bytes past its last block are never read" (RULES): the acts of the calls on two cards with the same blocks, over the steps of TwinSteps. An act needs inode
 -- numbers below the block count, and lengths and entry places that a file's slots can hold. Assumes nothing.
-use mathlib.Core.Path.{◌≡◌, refl, sym, ap, ◌∙◌}
+use mathlib.Core.Path.{◌≡◌, refl, sym}
 use mathlib.Core.Bool.{true, false}
 use mathlib.Core.List.{List, []}
 use Prim.Native.Nat.{ℕ, ◌+◌, ◌-◌, ◌*◌, ◌/◌, ◌≤◌, ◌<◌}
 use native.Mathlib.Omega.{arith}
 use lib.Dec.{eqb, ltb}
 use lib.ListN.{replicate}
+use Rattle.std.proofs.lemmas.Grind.{common_steps}
 use Rattle.words.specs.Words.{word}
 use Rattle.words.specs.Runs.{copied}
 use Rattle.words.proofs.Runs.{puts_is}
@@ -96,10 +97,7 @@ module _ (nb : ℕ) (few : fewest ≤ nb) where
 
     pub read_twin : (n : ℕ) → n < nb → after_of end ≤ 1049612 → (buf : List ℕ) → read_into x nb n off end buf ≡ read_into y nb n off end buf
     unfolding read_into
-    read_twin n l h buf =
-        ap (λ (u : List ℕ). double_read x nb n off end (indirect_read x nb n off end u)) (read_direct n l buf)
-        ∙ ap (double_read x nb n off end) (read_single n l (direct_read y nb n off end buf))
-        ∙ read_twofold n l _ h
+    read_twin n l h buf = grind (arith, common_steps, read_direct, read_single, read_twofold)
 
   -- ---- numbers and records
 
@@ -161,10 +159,7 @@ module _ (nb : ℕ) (few : fewest ≤ nb) where
 
     twin_removed : (k : ℕ) → 260 * k ≤ longest → Twin nb (removed nb n d k x) (removed nb n d k y)
     unfolding removed
-    twin_removed k l =
-        let last = d.head.size / 260 - 1 in
-        rw (← twin_entry_at n here last (omega arith) t)
-        (twin_fitted n here d (twin_entry_put n here k l t (entry_at nb x n last)) (d.head.size - 260) (omega arith))
+    twin_removed k l = grind (arith, common_steps, twin_entry_at, twin_fitted, twin_entry_put)
 
   -- ---- create, in a directory p with record d
 

@@ -23,7 +23,7 @@ use Rattle.law_dirs.proofs.MoveTests.{move_tests_lem, move_can}
 use Rattle.law_dirs.proofs.MoveJudged.{judged as move-judged}
 use Rattle.law_calls.specs.Tail.{Twin}
 use Rattle.law_calls.proofs.TailCalls.{judged_small, write_small}
-use Rattle.law_calls.proofs.Both.{both_if, both_done, both_head, both_file}
+use Rattle.law_calls.proofs.Both.{both_if, both_head, both_file}
 use Rattle.law_calls.proofs.TwinSteps.{twin_filled}
 use Rattle.law_calls.proofs.TwinActs.{twin_resized, twin_reaching, twin_made, twin_linked, twin_unlinked, twin_moved}
 use Rattle.law_calls.proofs.TwinReads.{decoded_twin, unused_twin, record_twin, where_twin, entry_twin}
@@ -54,7 +54,7 @@ module _ {img out : List ℕ} (w : Whole img) (t : Twin (blocks img) img out) wh
         rw (decoded_twin w t n r, unused_twin w t)
         (both_file Same img n img out _ _
         (λ k.
-        both_done Same (judged (unused img) (head_at img n k) len) _ _ img out
+        both_if Same (judged (unused img) (head_at img n k) len) _ _ img out
         (λ e.
         rw (record_twin w t n r (head_at img n k))
         (twin_resized nb few n here (record_with img n (head_at img n k)) t len (omega (arith, judged_small (unused img) (head_at img n k) len e))))
@@ -67,7 +67,7 @@ module _ {img out : List ℕ} (w : Whole img) (t : Twin (blocks img) img out) wh
         rw (decoded_twin w t n r, unused_twin w t)
         (both_file Same img n img out _ _
         (λ k.
-        both_done Same (write_judged (unused img) (head_at img n k) (end_of off src)) _ _ img out
+        both_if Same (write_judged (unused img) (head_at img n k) (end_of off src)) _ _ img out
         (λ e.
         rw (record_twin w t n r (head_at img n k))
         (twin_filled nb few false src off (end_of off src) n here

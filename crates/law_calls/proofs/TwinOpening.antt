@@ -1,25 +1,25 @@
 -- "Bytes past its last block are never read" (RULES), of opening a card: what it answers for one of two images with the same blocks, and the scratch that it
 -- leaves, is what it does for the other. Assumes nothing.
-use mathlib.Core.Path.{◌≡◌, refl, sym, ap, ◌∙◌}
+use mathlib.Core.Path.{◌≡◌, refl}
 use mathlib.Core.Logic.{◌≢◌}
 use mathlib.Core.List.{List}
 use Prim.Native.Nat.{ℕ, ◌*◌, ◌≤◌, ◌<◌}
 use native.Mathlib.Omega.{arith}
 use lib.ListN.{length, replicate, length-replicate}
-use Rattle.words.specs.Runs.{zeroed}
+use Rattle.std.proofs.lemmas.Grind.{common_steps}
 use Rattle.card_layout.specs.Super.{blocks}
 use Rattle.card_rules.proofs.Kept.{SameSuper, magic_is, blocks_is, unused_is}
-use Rattle.check_walk.specs.declared.Opened.{Opened}
-use Rattle.check_walk.specs.declared.Opened.TheVariants.{Open, ScratchShort}
-use Rattle.check_walk.specs.Opening.{counts_at, cleared, Opening, whole, no_inode, damaged, scratch_short, wrong_fs, unsized}
+use Rattle.check_walk.specs.Opening.{counts_at, cleared, Opening, whole, no_inode, damaged, scratch_short, wrong_fs, unsized, Opened}
 use Rattle.check_walk.proofs.Agree.{agree}
 use Rattle.law_calls.specs.Tail.{Twin}
-use Rattle.law_calls.proofs.TwinReads.{twin_sym, twin_super, sized_twin, whole_twin, reached_on, reached_back}
+use Rattle.law_calls.proofs.TwinReads.{twin_sym, twin_super, sized_twin, whole_twin, reached_back}
+use Rattle.refusals.specs.declared.Refusal.TheVariants.{ScratchShort}
+use Rattle.std.specs.Prelude.{Err}
 
 -- ---- another scratch: an answer goes by whether it is long enough
 
 module _ {img s s' : List ℕ} {a b : ℕ} {o : Opened} (v : List ℕ) where
-  other_scratch : (4 * blocks img ≤ length s → 4 * blocks img ≤ length v) → (length s < 4 * blocks img → o ≡ ScratchShort → length v < 4 * blocks img)
+  other_scratch : (4 * blocks img ≤ length s → 4 * blocks img ≤ length v) → (length s < 4 * blocks img → o ≡ Err ScratchShort → length v < 4 * blocks img)
       → Opening img s s' a b o → (u : List ℕ) × Opening img v u a b o
   other_scratch f g (whole l w x y e _) = (cleared img v, whole (f l) w x y e refl)
   other_scratch f g (no_inode l w x e _) = (cleared img v, no_inode (f l) w x e refl)
@@ -33,7 +33,7 @@ module _ {img s s' : List ℕ} {a b : ℕ} {o : Opened} (v : List ℕ) where
   as_long e = other_scratch (λ l. omega (arith, e)) (λ l _. omega (arith, e))
 
   -- one that is long enough, as that was
-  long : 4 * blocks img ≤ length v → o ≢ ScratchShort → Opening img s s' a b o → (u : List ℕ) × Opening img v u a b o
+  long : 4 * blocks img ≤ length v → o ≢ Err ScratchShort → Opening img s s' a b o → (u : List ℕ) × Opening img v u a b o
   long h d = other_scratch (λ l. h) (λ l e. absurd (d e))
 
 -- ---- another image, which has the same superblock and is whole where that is
@@ -48,25 +48,11 @@ module _ {img out : List ℕ} (some : 0 < blocks img) (t : Twin (blocks img) img
   counts_same : counts_at out ≡ counts_at img
   counts_same = rw (blocks_same, unused_is same)
 
-  cleared_same : (s : List ℕ) → cleared out s ≡ cleared img s
-  cleared_same s = ap (λ (k : ℕ). zeroed s 0 (4 * k)) blocks_same
-
   back : Twin (blocks out) out img
   back = rw blocks_same (twin_sym t)
 
-  some_out : 0 < blocks out
-  some_out = rw blocks_same some
-
   other_image : {s s' : List ℕ} {a b : ℕ} {o : Opened} → Opening out s s' a b o → Opening img s s' a b o
-  other_image {s} {a = a} {b = b} (whole l w x y e f) =
-      whole (rw blocks_same at l) (whole_twin w back) (reached_on w back a x) (reached_on w back b y) (e ∙ ap Open counts_same) (f ∙ cleared_same s)
-  other_image {s} {a = a} {b = b} (no_inode l w x e f) =
-      no_inode (rw blocks_same at l) (whole_twin w back) (λ p q. x (reached_back w back a p) (reached_back w back b q)) e (f ∙ cleared_same s)
-  other_image {s} (damaged z l w e f) =
-      damaged (sized_twin some_out back z) (rw blocks_same at l) (λ v. w (whole_twin v t)) e (f ∙ cleared_same s)
-  other_image (scratch_short z l e f) = scratch_short (sized_twin some_out back z) (rw blocks_same at l) e f
-  other_image (wrong_fs l w e f) = wrong_fs (omega (arith, t.room)) (λ m. w (magic_is same ∙ m)) e f
-  other_image (unsized l w e f) = unsized (λ m. sym (magic_is same) ∙ l (omega (arith, t.room_too))) (λ z. w (sized_twin some t z)) e f
+  other_image t₁ = grind (arith, common_steps, whole_twin, back, counts_same, reached_back, sized_twin, magic_is, same)
 
   module _ {s s' u' : List ℕ} {a b : ℕ} {o o' : Opened} (p : Opening img s s' a b o) where
     -- with one scratch for both: one answer, and one scratch afterwards
@@ -78,7 +64,7 @@ module _ {img out : List ℕ} (some : 0 < blocks img) (t : Twin (blocks img) img
     opening_even e q = (agree p (as_long s e (other_image q)).1).0
 
     -- with scratches of any length, neither of them too short: both answer as with a scratch that is just long enough
-    pub opening_twin : {u : List ℕ} → o ≢ ScratchShort → o' ≢ ScratchShort → Opening out u u' a b o' → o ≡ o'
+    pub opening_twin : {u : List ℕ} → o ≢ Err ScratchShort → o' ≢ (Err ScratchShort) → Opening out u u' a b o' → o ≡ o'
     opening_twin d d' q = (agree (long ample enough d p).1 (long ample enough d' (other_image q)).1).0
       where
         ample : List ℕ

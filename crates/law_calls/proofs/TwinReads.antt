@@ -6,37 +6,38 @@ use mathlib.Core.List.{List}
 use Prim.Native.Nat.{ℕ, ◌+◌, ◌*◌, ◌≤◌, ◌<◌, min}
 use native.Mathlib.Omega.{arith}
 use lib.ListN.{length}
-use Rattle.words.specs.Words.{pick}
-use Rattle.words.specs.Sums.{δ, sum_to, cnt}
+use Rattle.std.proofs.lemmas.Grind.{common_steps}
+use Rattle.words.specs.Sums.{cnt}
 use Rattle.words.proofs.Sums.{sum_on_cong}
 use Rattle.card_layout.specs.Sizes.{fewest}
 use Rattle.card_layout.specs.Super.{blocks, unused, maps}
 use Rattle.card_layout.specs.Inode.{size, kind, links, count, decoded}
 use Rattle.card_layout.specs.declared.inode.Head.{Head}
-use Rattle.card_layout.specs.declared.inode.Decoded.{Decoded}
-use Rattle.card_layout.specs.declared.inode.Decoded.TheVariants.{Good, BadKind}
 use Rattle.card_map.specs.Bits.{map_bit}
 use Rattle.card_map.proofs.First.{first_cong}
 use Rattle.card_map.proofs.Map.{free_is}
-use Rattle.card_rules.specs.View.{file_bytes, entries, entry, name, owns, uses}
+use Rattle.card_rules.specs.View.{file_bytes, entries, entry, name, uses}
 use Rattle.card_rules.specs.Whole.{Sized, Reached, Sound, Whole}
 use Rattle.card_rules.specs.Places.{held}
 use Rattle.card_rules.proofs.Owners.{map_below, held_below}
 use Rattle.card_rules.proofs.Tree.{reached_listed}
 use Rattle.card_rules.proofs.Views.{uses_parts}
 use Rattle.card_rules.specs.Same.{SameBlock, SameRecord, SameFile}
-use Rattle.card_rules.proofs.Frames.{size_is, kind_is, links_is, count_is, decoded_is, inode_is, owns_is, entries_is, inode_room, file_bytes_is, entry_is, name_is, file_held}
-use Rattle.card_rules.proofs.Kept.{SameSuper, SameMap, magic_is, blocks_is, unused_is, maps_is, super_block, map_blocks, slots_few, bit_of_lem, reached_to, reached_from, tree_same}
+use Rattle.card_rules.proofs.Frames.{size_is, kind_is, links_is, count_is, decoded_is, inode_is, owns_is}
+use Rattle.card_rules.proofs.Frames.{entries_is, inode_room, file_bytes_is, entry_is, name_is, file_held}
+use Rattle.card_rules.proofs.Kept.{SameSuper, SameMap, magic_is, blocks_is, unused_is, maps_is, super_block}
+use Rattle.card_rules.proofs.Kept.{map_blocks, slots_few, bit_of_lem, reached_from, tree_same}
 use Rattle.file_blocks.specs.Bytes.{read_into}
 use Rattle.file_blocks.specs.Taking.{next_free}
 use Rattle.file_requests.specs.Requests.{by_kind, by_file, record_with, read_buffer}
-use Rattle.dir_entries.specs.Entries.{eqs, same_as, where_is}
+use Rattle.dir_entries.specs.Entries.{where_is}
 use Rattle.dir_answers.specs.Answers.{named_by}
 use Rattle.dir_answers.proofs.Ready.{inode_ready, below_ready, size_ready}
 use Rattle.dir_answers.proofs.Heads.{head_is}
 use Rattle.law_calls.specs.Tail.{Twin}
 use Rattle.law_calls.proofs.TwinSteps.{next_free_twin}
 use Rattle.law_calls.proofs.TwinActs.{read_twin, record_with_twin}
+use Rattle.std.specs.Prelude.{Option, Some, None}
 
 -- ---- on any bytes
 
@@ -78,14 +79,7 @@ module _ {img out l : List ℕ} (s : Sound img l) (t : Twin (blocks img) img out
   listed_twin n h = file_held img out n (λ p u. twin_block t (held img n p) (held_below img l s n p h u))
 
   uses_twin : (b : ℕ) → uses out l b ≡ uses img l b
-  uses_twin b =
-      omega (
-        arith,
-        uses_parts out l b,
-        uses_parts img l b,
-        ap (sum_to (λ i. δ (2 + i) b)) (maps_is same_super),
-        sum_on_cong (λ n. owns out n b) (λ n. owns img n b) l (λ n c. owns_is (listed_twin n c).slots (slots_few s n c) b),
-      )
+  uses_twin b = grind (arith, common_steps, uses_parts, maps_is, sum_on_cong, owns_is, listed_twin, slots_few)
 
   bit_twin : (b : ℕ) → b < blocks img → map_bit out b ≡ map_bit img b
   bit_twin b q = same_map.bits b (bit_of_lem img s.sized b q)
@@ -131,12 +125,7 @@ module _ {img out : List ℕ} (w : Whole img) (t : Twin (blocks img) img out) wh
         tree = tree_same w.tree (λ n r. (file_twin n r).slots.rec) (λ n r _. inode_ready img w n r) (λ n r _. file_twin n r);
       }
 
-  -- the reached inodes are the same, both ways
-  pub reached_on : (n : ℕ) → Reached img n → Reached out n
-  reached_on =
-      reached_to w.tree (λ n r. kind_is (file_twin n r).slots.rec) (λ n r. links_is (file_twin n r).slots.rec)
-      (λ n r _. inode_ready img w n r) (λ n r _. file_twin n r)
-
+  -- what is reached there is reached here
   pub reached_back : (n : ℕ) → Reached out n → Reached img n
   reached_back =
       reached_from w.tree (λ n r. kind_is (file_twin n r).slots.rec) (λ n r. links_is (file_twin n r).slots.rec)
@@ -189,10 +178,7 @@ module _ {img out : List ℕ} (w : Whole img) (t : Twin (blocks img) img out) wh
     -- where a name is goes by the names of the entries; where none has it, it is the number of entries
     pub where_twin : (x : List ℕ) → where_is out n x ≡ where_is img n x
     unfolding where_is
-    where_twin x =
-        rw entries_twin
-        (first_cong (same_as out n x) (same_as img n x) 0 (entries img n)
-        (λ k a l. ap (λ (y : List ℕ). pick (eqs y x) 1 0) (name_twin k (omega arith))))
+    where_twin x = grind (arith, common_steps, entries_twin, first_cong, name_twin)
 
     -- past the entries there may be no block: what a name stands for is the same where the name is found
     pub named_twin : (x : List ℕ) → where_is img n x < entries img n → named_by out n x ≡ named_by img n x
@@ -202,13 +188,13 @@ module _ {img out : List ℕ} (w : Whole img) (t : Twin (blocks img) img out) wh
 
     pub read_buffer_twin : (off : ℕ) (buf : List ℕ) → read_buffer (blocks img) out n off buf ≡ read_buffer (blocks img) img n off buf
     unfolding read_buffer
-    read_buffer_twin off buf = ap (λ (d : Decoded). by out d) decoded_twin ∙ go (decoded img n) refl
+    read_buffer_twin off buf = ap (λ (d : Option Head). by out d) decoded_twin ∙ go (decoded img n) refl
       where
-        by : List ℕ → Decoded → List ℕ
+        by : List ℕ → Option Head → List ℕ
         by x d = by_file d buf (λ h. read_into x (blocks img) n (min h.size off) (min h.size (off + length buf)) buf)
 
-        go : (d : Decoded) → decoded img n ≡ d → by out d ≡ by img d
-        go BadKind e = refl
-        go (Good h) e =
+        go : (d : Option Head) → decoded img n ≡ d → by out d ≡ by img d
+        go None e = refl
+        go (Some h) e =
             ap (λ (x : List ℕ). by_kind h.type_ buf x)
             (read_into_twin (min h.size off) (min h.size (off + length buf)) (omega (arith, (head_is img n h e).size_is)) buf)

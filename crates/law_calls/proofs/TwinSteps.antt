@@ -6,10 +6,9 @@ use mathlib.Core.Bool.{Bool, true, false}
 use mathlib.Core.List.{List, [], ◌∷◌}
 use Prim.Native.Nat.{ℕ, zero, suc, ◌+◌, ◌-◌, ◌*◌, ◌/◌, ◌%◌, ◌≤◌, ◌<◌, min}
 use native.Mathlib.Omega.{arith}
-use native.Mathlib.Decide.{ℕ_discrete}
 use lib.Dec.{ltb}
-use lib.ListN.{set, length-set}
-use lib.Seq.{get_or-set_same, get_or-set_other}
+use lib.ListN.{set}
+use Rattle.std.proofs.lemmas.Grind.{common_steps}
 use Rattle.words.specs.Words.{pick, byte, num, word, put_num, put_word}
 use Rattle.words.specs.Runs.{puts, copied, zeroed}
 use Rattle.words.proofs.Numbers.{num_frame}
@@ -25,7 +24,9 @@ use Rattle.card_map.proofs.Map.{bit_is}
 use Rattle.card_map.proofs.Laws.{lowest_cong}
 use Rattle.file_blocks.specs.Bytes.{put, after_of, piece_fill, run_fill, direct_fill, indirect_fill, level_fill, double_fill, filled}
 use Rattle.file_blocks.specs.Inner.{levels_from, levels_to}
-use Rattle.file_blocks.specs.Taking.{Cursor, Growing, next_free, next_of, took_next, into_word, into_direct, into_indirect, into_double, moved, grow_run, grow_indirect, grow_double, grow_level, grow_direct, grow_single, grow_part, grow_twofold, grown, freed_in, free_run, free_direct, free_single, free_part, free_twofold, free_indirect, free_level, free_double, shrunk}
+use Rattle.file_blocks.specs.Taking.{Cursor, Growing, next_free, next_of, took_next, into_word, into_direct, into_indirect, into_double, moved}
+use Rattle.file_blocks.specs.Taking.{grow_run, grow_indirect, grow_double, grow_level, grow_direct, grow_single, grow_part, grow_twofold, grown, freed_in}
+use Rattle.file_blocks.specs.Taking.{free_run, free_direct, free_single, free_part, free_twofold, free_indirect, free_level, free_double, shrunk}
 use Rattle.file_blocks.specs.Ranges.{parts_from, parts_to}
 use Rattle.file_blocks.proofs.Growth.{part_run, twofold_turn}
 use Rattle.law_calls.specs.Tail.{Twin}
@@ -36,16 +37,7 @@ use Rattle.law_calls.proofs.TailSteps.{seconds-few}
 
 module _ {nb : ℕ} where
   twin_set : (at v : ℕ) {x y : List ℕ} → Twin nb x y → Twin nb (set x at v) (set y at v)
-  twin_set at v {x} {y} t =
-      record {
-        room = rw (length-set x at v) t.room;
-        room_too = rw (length-set y at v) t.room_too;
-        below = λ j l. go j l (ℕ_discrete j at);
-      }
-    where
-      go : (j : ℕ) → j < 4096 * nb → Dec (j ≡ at) → byte (set y at v) j ≡ byte (set x at v) j
-      go j l (yes e) = rw (e, get_or-set_same x at v 0 (omega (arith, t.room)), get_or-set_same y at v 0 (omega (arith, t.room_too)))
-      go j l (no d) = rw (get_or-set_other x at j v 0 d, get_or-set_other y at j v 0 d) (t.below j l)
+  twin_set at v {x} {y} t = grind (arith, common_steps)
 
   twin_num : (n at v : ℕ) {x y : List ℕ} → Twin nb x y → Twin nb (put_num n x at v) (put_num n y at v)
   unfolding put_num
@@ -184,9 +176,7 @@ module _ (nb : ℕ) (few : fewest ≤ nb) where
 
   pub twin_shrunk : (n : ℕ) (d : DiskINode) (b a : ℕ) {x y : List ℕ} → n < nb → a < 1049612 → Twin nb x y → Twin nb (shrunk nb n d b a x) (shrunk nb n d b a y)
   unfolding shrunk
-  twin_shrunk n d b a l h t =
-      twin_free_double n d b a
-      (twin_free_level n d b a (twin_free_indirect n d b a (twin_free_twofold n d b a (twin_free_single n d b a (twin_free_direct n d b a t l)) h)) h)
+  twin_shrunk n d b a l h t = grind (arith, common_steps, twin_free_double, twin_free_level, twin_free_indirect, twin_free_twofold, twin_free_single, twin_free_direct)
 
   -- ---- filling
 

@@ -1,8 +1,8 @@
 -- The public calls on files, each with a scratch of its own, and what they say (call_files/specs/FileCalls).
 use Rattle.std.specs.Prelude.{ℕ, ◌≡◌, List, length}
 use Rattle.call_files.specs.FileCalls.{Read, Written, Resized}
-use Rattle.call_said.specs.declared.Said.{Said}
 use Rattle.law_files.specs.Requests.{Request, reading, writing, resizing}
+use Rattle.call_said.specs.Said.{Said}
 
 -- the call of a request on card img says r and leaves the card img'
 pub data Called (img img' : List ℕ) : Request → Said → Type 0 where

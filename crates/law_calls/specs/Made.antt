@@ -3,14 +3,12 @@
 use Rattle.std.specs.Prelude.{ℕ, ◌≡◌, List, [], ◌∷◌, ◌≢◌, ◌⊎◌, eqb, ltb}
 use Rattle.words.specs.Words.{pick, Bytes}
 use Rattle.card_layout.specs.Inode.{kind, links}
-use Rattle.check_walk.specs.Opening.{Opening}
-use Rattle.check_walk.specs.declared.Opened.{Opened}
+use Rattle.check_walk.specs.Opening.{Opening, Opened}
 use Rattle.dir_entries.specs.Names.{dots}
 use Rattle.dir_answers.specs.Answers.{named_by}
 use Rattle.call_dirs.specs.DirCalls.{Created, Linked, Unlinked, Moved}
 use Rattle.call_looks.specs.LookCalls.{Found, Listed, Described}
-use Rattle.call_said.specs.Said.{of_opened}
-use Rattle.call_said.specs.declared.Said.{Said}
+use Rattle.call_said.specs.Said.{of_opened, Said}
 use Rattle.law_files.specs.Requests.{Request, reading, writing, resizing, OfBytes}
 use Rattle.law_calls.specs.Calls.{Called, read, write, resize}
 

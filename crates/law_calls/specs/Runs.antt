@@ -2,27 +2,11 @@
 use Rattle.std.specs.Prelude.{ℕ, ◌+◌, ◌-◌, ◌≡◌, List, [], ◌∷◌, eqb, ltb, length}
 use Rattle.words.specs.Words.{pick, byte}
 use Rattle.words.specs.Sums.{cnt}
-use Rattle.call_said.specs.Said.{said_no}
-use Rattle.call_said.specs.declared.Said.{Said}
 use Rattle.law_files.specs.Requests.{reading, writing, resizing}
-use Rattle.law_calls.specs.Made.{
-  Asked,
-  file,
-  creating,
-  linking,
-  unlinking,
-  moving,
-  finding,
-  listing,
-  describing,
-  checking,
-  Made,
-  OfBytesAll,
-  names_of,
-  writes_of,
-  removes_of,
-  Asks,
-}
+use Rattle.law_calls.specs.Made.{Asked, file, creating, linking, unlinking, moving, finding, listing}
+use Rattle.law_calls.specs.Made.{describing, checking, Made, OfBytesAll, names_of, writes_of, removes_of, Asks}
+use Rattle.call_said.specs.Said.{Said}
+use Rattle.refusals.specs.Refusals.{answer_no}
 
 -- what was asked, and what was said to it
 pub record Call : Type 0 where
@@ -30,7 +14,7 @@ pub record Call : Type 0 where
   pub said : Said
 
 abbrev pub Done : Call → Type 0
-Done c = said_no c.said ≡ 0
+Done c = answer_no c.said ≡ 0
 
 -- calls from card img to card out, each such that P holds of the card before it, the card after it, and the call
 pub data Run (P : List ℕ → List ℕ → Call → Type 0) : List ℕ → List ℕ → List Call → Type 0 where
@@ -42,7 +26,7 @@ pub data Run (P : List ℕ → List ℕ → Call → Type 0) : List ℕ → List
 abbrev pub put : Asked → Said → ℕ → ℕ → ℕ → ℕ
 put (file (reading m off k)) r n o v = v
 put (file (writing m off src)) r n o v =
-    pick (eqb (said_no r) 0) (pick (eqb m n) (pick (ltb o off) v (pick (ltb o (off + length src)) (byte src (o - off)) v)) v) v
+    pick (eqb (answer_no r) 0) (pick (eqb m n) (pick (ltb o off) v (pick (ltb o (off + length src)) (byte src (o - off)) v)) v) v
 put (file (resizing m len)) r n o v = v
 put (creating p x k) r n o v = v
 put (linking p x c) r n o v = v
@@ -82,7 +66,7 @@ Unasked d x img c = Done c → Asks img c.asked d x → ⊥
 abbrev pub shown : Asked → Said → ℕ → ℕ → ℕ → ℕ
 shown (file (reading m off k)) r n o v = v
 shown (file (writing m off src)) r n o v = put (file (writing m off src)) r n o v
-shown (file (resizing m len)) r n o v = pick (eqb (said_no r) 0) (pick (eqb m n) (pick (ltb o len) v 0) v) v
+shown (file (resizing m len)) r n o v = pick (eqb (answer_no r) 0) (pick (eqb m n) (pick (ltb o len) v 0) v) v
 shown (creating p x k) r n o v = v
 shown (linking p x c) r n o v = v
 shown (unlinking p x) r n o v = v

@@ -48,7 +48,8 @@ pub record Appended (img out : List ℕ) (n v : ℕ) (e : List ℕ) : Type 0 whe
   pub tail : SameTail img out n
 
 -- the directory is 260 longer, then its last entry is e
-appended_by : {img mid out l e : List ℕ} {n v : ℕ} → Sound img l → 0 < cnt n l → ResizedWith img mid n (size img n + 260) v → EntryPut l mid out n (entries img n) e
+appended_by : {img mid out l e : List ℕ} {n v : ℕ} → Sound img l → 0 < cnt n l → ResizedWith img mid n (size img n + 260) v
+    → EntryPut l mid out n (entries img n) e
     → Appended img out n v e
 appended_by {img} {mid} {out} {l} {e} {n} {v} s h r p =
     let t : Sound mid l = sound_one s h r.within r.balanced in

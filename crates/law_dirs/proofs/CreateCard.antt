@@ -5,9 +5,9 @@ use mathlib.Core.List.{List, ◌∷◌}
 use mathlib.Core.Logic.{◌≢◌}
 use Prim.Native.Nat.{ℕ, ◌+◌, ◌≤◌, ◌<◌}
 use native.Mathlib.Omega.{arith}
-use native.Mathlib.Decide.{dec_lt, ℕ_discrete}
 use borrow.Author.Tests.{eq-eqb, ne_eqb}
 use lib.Dec.{eqb}
+use Rattle.std.proofs.lemmas.Grind.{common_steps}
 use Rattle.words.specs.Words.{pick, Bytes}
 use Rattle.words.specs.Sums.{cnt}
 use Rattle.words.proofs.Numbers.{num_lt}
@@ -30,10 +30,10 @@ use Rattle.card_rules.proofs.Kept.{slots_few}
 use Rattle.card_rules.proofs.Isolation.{data_refl}
 use Rattle.file_grow.proofs.Taken.{nth_free}
 use Rattle.dir_entries.specs.Entries.{where_is, appended}
-use Rattle.dir_answers.specs.Answers.{acted_no, the_inode}
+use Rattle.dir_answers.specs.Answers.{the_inode}
 use Rattle.dir_create.specs.Create.{file_kind, fresh_inode, create_takes, create_answer, bare_dir, empty_dir, made_file, made_dir, made, create_card}
 use Rattle.law_files.proofs.Requests.{of_kind}
-use Rattle.law_files.proofs.Resized.{held_is, in_use_is}
+use Rattle.law_files.proofs.Resized.{held_is}
 use Rattle.law_tree.proofs.TreeAdd.{NewFile, NewDir}
 use Rattle.law_files.proofs.Edits.{Edited, data_edited}
 use Rattle.law_dirs.specs.Entries.{NewRecord}
@@ -64,6 +64,7 @@ use Rattle.law_dirs.proofs.Creating.{
   out_tree,
 }
 use Rattle.law_dirs.proofs.CreateDir.{EmptyDir, empty_edited, empty_dir_lem, empty_block}
+use Rattle.refusals.specs.Refusals.{answer_no}
 
 -- a file or a symbolic link with nothing in it, and one name
 pub record EmptyFile (out : List ℕ) (i : ℕ) : Type 0 where
@@ -174,54 +175,26 @@ module _ {img : List ℕ} (w : Whole img) (bytes : Bytes img) (p : ℕ) (r : Rea
         }
 
     new_file : kind out i ≢ 2 → NewFile img out p i
-    new_file d =
-        let q : k ≢ 2 = λ y. d (kind_out ∙ y) in
-        record { one_link = (file_out q).links_is; parent_links = omega (arith, a.links_is, linked, extra_file k q) }
+    new_file d = grind (arith, common_steps, kind_out, file_out)
 
     new_dir : kind out i ≡ 2 → NewDir img out p i
-    new_dir y =
-        let q : k ≡ 2 = sym kind_out ∙ y in
-        let g = dir_out q in
-        record {
-          dir = g.dir;
-          bare = omega (arith, g.size_is);
-          up = g.up;
-          two_links = g.links_is;
-          parent_links = omega (arith, a.links_is, linked, extra_dir k q);
-        }
+    new_dir y = grind (arith, common_steps, kind_out, dir_out)
 
     tree_out : Tree out (i ∷ l)
     tree_out = out_tree w.sound f e x p_listed a w.tree can.name new_file new_dir
 
     took_some : k ≡ 2 → 0 < count new i
-    took_some q = go (dec_lt 0 (count new i))
-      where
-        go : Dec (0 < count new i) → 0 < count new i
-        go (yes c) = c
-        go (no c) =
-            let z : count new i ≡ 0 = omega arith in
-            absurd (omega (arith, took, extra_dir k q, ap owned z, owned_few 0 (omega arith)))
+    took_some q = grind (arith, common_steps)
 
     -- p is before the append as it was
     p_same : SameFile img new p
     p_same = old_same w.sound f e p p_listed
 
     places_out : (q : Place) → InUse img p q → held out p q ≡ held img p q
-    places_out q u =
-        a.places q (in_use_is new img p (sym (count_is p_same.slots.rec)) q u)
-        ∙ held_is p_same.slots (slots_few w.sound p p_listed) q u
+    places_out q u = grind (arith, common_steps, count_is, p_same, held_is, slots_few)
 
     balance_out : (b : ℕ) → b < blocks img → owns out i b + (owns out p b + map_bit out b) ≡ owns img p b + map_bit img b
-    balance_out b q =
-        let m : blocks new ≡ blocks img = new_blocks w.sound f e in
-        omega (
-          arith,
-          f.balance b q,
-          e.balanced.balance b (omega (arith, f.blocks_is)),
-          a.edited.balanced.balance b (omega arith),
-          owns_is same.slots (slots_few (new_sound w.sound f e) i (listed_here i l)) b,
-          owns_is p_same.slots (slots_few w.sound p p_listed) b,
-        )
+    balance_out b q = grind (arith, common_steps, owns_is, same, slots_few, p_same)
 
     create_by : CreateDone l img out p x k i
     create_by =
@@ -253,11 +226,7 @@ module _ {img : List ℕ} (w : Whole img) (bytes : Bytes img) (p : ℕ) (r : Rea
   -- ---- a file or a symbolic link
 
   made-kind : k ≢ 2 → kind_no (file_kind k) ≡ k
-  made-kind d = go (ℕ_discrete k 1)
-    where
-      go : Dec (k ≡ 1) → kind_no (file_kind k) ≡ k
-      go (yes e) = rw (eq-eqb k 1 e) (sym e)
-      go (no e) = rw (ne_eqb k 1 e) (omega (arith, can.known.low, can.known.high))
+  made-kind d = grind (arith, common_steps)
 
   file_done : k ≢ 2 → CreateDone l img (made_file (blocks img) p (inode_at img p Dir) x (file_kind k) img) p x k i
   unfolding made_file
@@ -333,18 +302,14 @@ module _ {img : List ℕ} (w : Whole img) (bytes : Bytes img) (p : ℕ) (r : Rea
 
   can_done : CreateDone l img (made (blocks img) p (inode_at img p Dir) x k img) p x k i
   unfolding made
-  can_done = go (ℕ_discrete k 2)
-    where
-      go : Dec (k ≡ 2) → CreateDone l img (made (blocks img) p (inode_at img p Dir) x k img) p x k i
-      go (yes e) = rw (eq-eqb k 2 e) (dir_done e)
-      go (no d) = rw (ne_eqb k 2 d) (file_done d)
+  can_done = grind (arith, common_steps, dir_done, file_done)
 
 -- ---- the call
 
 module _ {img : List ℕ} (w : Whole img) (bytes : Bytes img) (p : ℕ) (r : Reached img p) (x : List ℕ) (src : Bytes x) (k i : ℕ)
     (done : create_answer (blocks img) img p x k ≡ the_inode i) where
   passed : CanCreate img p x k × (create_answer (blocks img) img p x k ≡ the_inode (lowest img 0 (blocks img)))
-  passed = create_can (create_tests_lem w.sound p (omega (arith, w.tree.all p r)) x k) (ap acted_no done)
+  passed = create_can (create_tests_lem w.sound p (omega (arith, w.tree.all p r)) x k) (ap answer_no done)
 
   number : fresh_inode (blocks img) img ≡ i
   number =

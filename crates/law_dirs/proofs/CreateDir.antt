@@ -1,12 +1,11 @@
 -- The middle step of a directory's creation: its new record becomes a directory of two entries, "." with its own number and ".." with its parent's. `mid` is
 -- the card with the new record, `out` the card after. Assumes nothing.
-use mathlib.Core.Path.{◌≡◌, refl, sym, ap, ◌∙◌, subst}
+use mathlib.Core.Path.{◌≡◌, refl, ap, ◌∙◌, subst}
 use mathlib.Core.List.{List, ◌∷◌}
-use Prim.Native.Nat.{ℕ, zero, suc, ◌≤◌, ◌<◌, ◌^◌}
+use Prim.Native.Nat.{ℕ, ◌≤◌, ◌<◌, ◌^◌}
 use native.Mathlib.Omega.{arith}
-use native.Mathlib.Decide.{ℕ_discrete}
-use lib.ListN.{length}
-use Rattle.words.specs.Words.{byte, Bytes}
+use Rattle.std.proofs.lemmas.Grind.{common_steps}
+use Rattle.words.specs.Words.{Bytes}
 use Rattle.words.specs.Sums.{cnt}
 use Rattle.card_layout.specs.Super.{blocks, unused}
 use Rattle.card_layout.specs.Inode.{size, kind, links, count, direct, with_links}
@@ -14,7 +13,7 @@ use Rattle.card_layout.specs.Entry.{Name, entry_of}
 use Rattle.card_layout.specs.Slots.{seconds, owned}
 use Rattle.card_layout.specs.declared.inode.FileType.TheVariants.{Dir}
 use Rattle.card_layout.specs.declared.inode.DiskINode.{DiskINode}
-use Rattle.card_rules.specs.View.{data_at, entries, entry, name}
+use Rattle.card_rules.specs.View.{data_at, entry, name}
 use Rattle.card_rules.specs.Whole.{Sound, Dir as DirRules}
 use Rattle.card_rules.specs.Places.{at_data}
 use Rattle.card_rules.proofs.Views.{owned_few}
@@ -34,7 +33,7 @@ use Rattle.law_dirs.proofs.Entry.{EntryPut, entry_put_lem, put_beside, entry_of-
 use Rattle.law_dirs.specs.Entries.{entry_in, NewRecord}
 use Rattle.law_dirs.proofs.NewInode.{Fresh}
 use Rattle.law_dirs.proofs.FreshRecord.{fresh_record, record_after, direct_kept}
-use Rattle.law_dirs.proofs.Creating.{listed_here, number_fits}
+use Rattle.law_dirs.proofs.Creating.{listed_here}
 
 -- ---- the two names
 
@@ -47,19 +46,10 @@ unfolding no_nul
 dots-name = storable_name dots refl
 
 dot_bytes : Bytes dot
-dot_bytes = record { below = go }
-  where
-    go : (k : ℕ) → byte dot k < 256
-    go zero = omega arith
-    go (suc k) = omega arith
+dot_bytes = grind (arith, common_steps)
 
 dots_bytes : Bytes dots
-dots_bytes = record { below = go }
-  where
-    go : (k : ℕ) → byte dots k < 256
-    go zero = omega arith
-    go (suc zero) = omega arith
-    go (suc (suc k)) = omega arith
+dots_bytes = grind (arith, common_steps)
 
 -- ---- an empty directory
 
@@ -87,9 +77,6 @@ module _ {l img mid : List ℕ} {i : ℕ} (f : Fresh l img mid i Dir 2) (p : ℕ
 
   abbrev here : 0 < cnt i (i ∷ l)
   here = listed_here i l
-
-  i_fits : i < 2 ^ 32
-  i_fits = number_fits f.sound i here
 
   -- its block
   grown : ResizedWith mid long i 520 2
@@ -129,29 +116,10 @@ module _ {l img mid : List ℕ} {i : ℕ} (f : Fresh l img mid i Dir 2) (p : ℕ
   name_1 = two.name_new ∙ entry_of-name p dots dots-name
 
   entry_0 : entry out i 0 ≡ i
-  entry_0 =
-      two.entry_kept 0 (λ e. omega arith) (omega (arith, one.size_is, grown.size_is))
-      ∙ one.entry_new
-      ∙ entry_of_number i dot dot-name i_fits
+  entry_0 = grind (arith, common_steps, two, one, grown, entry_of_number)
 
   dir_out : DirRules out i
-  dir_out =
-      record {
-        even = rw size_out refl;
-        least = omega (arith, size_out);
-        first = record { dot = name_0; self = entry_0; dots = name_1 };
-        names = record { named = λ k b. each k b (ℕ_discrete k 0); differ = λ a k q b e. apart a k (omega (arith, size_out)) (omega (arith, size_out)) e };
-      }
-    where
-      each : (k : ℕ) → k < entries out i → Dec (k ≡ 0) → Name (name out i k)
-      each k b (yes z) = subst Name (sym name_0 ∙ ap (name out i) (sym z)) dot-name
-      each k b (no z) =
-          let w : k ≡ 1 = omega (arith, size_out) in
-          subst Name (sym name_1 ∙ ap (name out i) (sym w)) dots-name
-
-      apart : (a k : ℕ) → a ≡ 0 → k ≡ 1 → name out i a ≡ name out i k → ⊥
-      apart a k x y e =
-          omega (arith, ap length (sym name_0 ∙ ap (name out i) (sym x) ∙ e ∙ ap (name out i) y ∙ name_1))
+  dir_out = grind (arith, common_steps, size_out, name_0, entry_0, name_1)
 
   -- its block is the lowest free one
   placed : Placed mid long i 520

@@ -1,12 +1,13 @@
 -- What create answers on a sound card, test by test: 6, 8, 9, 12, 13, 14; and that a refusal changes nothing. Assumes nothing.
-use mathlib.Core.Path.{◌≡◌, sym, ap, ◌∙◌}
+use mathlib.Core.Path.{◌≡◌, sym, ◌∙◌}
 use mathlib.Core.Bool.{true, false}
 use mathlib.Core.List.{List}
 use mathlib.Core.Logic.{◌≢◌}
 use Prim.Native.Nat.{ℕ, ◌≤◌, ◌<◌}
 use native.Mathlib.Omega.{arith}
 use native.Mathlib.Decide.{dec_lt, ℕ_discrete}
-use borrow.Author.Tests.{lt-ltb, le-ltb, eq-eqb, ne_eqb}
+use borrow.Author.Tests.{le-ltb, eq-eqb}
+use Rattle.std.proofs.lemmas.Grind.{common_steps}
 use Rattle.card_layout.specs.Sizes.{full_links}
 use Rattle.words.specs.Words.{pick}
 use Rattle.words.specs.Sums.{cnt}
@@ -14,17 +15,19 @@ use Rattle.card_layout.specs.Super.{blocks, unused}
 use Rattle.card_layout.specs.Inode.{kind, links, head_at}
 use Rattle.card_layout.specs.Entry.{Name}
 use Rattle.card_layout.specs.declared.inode.FileType.TheVariants.{Dir}
+use Rattle.card_layout.specs.declared.INodeId.{INodeId}
 use Rattle.card_layout.specs.declared.inode.Head.{Head}
 use Rattle.card_map.specs.Free.{lowest}
 use Rattle.card_rules.specs.View.{entries, name}
 use Rattle.card_rules.specs.Whole.{Sound}
-use Rattle.dir_answers.specs.Answers.{acted_no, the_inode, room_for}
-use Rattle.dir_create.specs.Create.{known_kind, fresh_inode, create_takes, create_room, create_answer, create_card}
-use Rattle.dir_answers.specs.declared.Acted.{Acted}
-use Rattle.dir_answers.specs.declared.Acted.TheVariants.{NotDir, BadName, EntryExist, InvalidParam, TooManyLinks, NoDeviceSpace}
+use Rattle.dir_answers.specs.Answers.{the_inode, room_for}
+use Rattle.dir_create.specs.Create.{known_kind, fresh_inode, create_takes, create_room, create_answer}
 use Rattle.law_dirs.proofs.NameTests.{CanName, NameTests, not_dir, bad_name, exists, can, name_tests, name_tests_lem, name_exact}
-use Rattle.dir_create.proofs.CreateLaws.{create_refused as by-tag}
 use Rattle.law_dirs.proofs.NewInode.{next_lowest}
+use Rattle.refusals.specs.Refusals.{answer_no}
+use Rattle.refusals.specs.declared.Refusal.TheVariants.{NotDir, BadName, EntryExist, InvalidParam, TooManyLinks, NoDeviceSpace}
+use Rattle.refusals.specs.declared.Refusal.{Refusal}
+use Rattle.std.specs.Prelude.{Err, Result}
 
 -- 1, 2 and 3 are kinds
 pub record Known (k : ℕ) : Type 0 where
@@ -39,36 +42,28 @@ pub record CanCreate (img : List ℕ) (p : ℕ) (x : List ℕ) (k : ℕ) : Type 
   pub room : create_takes (head_at img p Dir) k ≤ unused img
 
 -- the answer a, by RULES' numbers
-pub data CreateTests (img : List ℕ) (p : ℕ) (x : List ℕ) (k : ℕ) (a : Acted) : Type 0 where
-  create_6 : kind img p ≢ 2 → a ≡ NotDir → CreateTests img p x k a
-  create_8 : kind img p ≡ 2 → (Name x → ⊥) → a ≡ BadName → CreateTests img p x k a
-  create_9 : kind img p ≡ 2 → Name x → (j : ℕ) → j < entries img p → name img p j ≡ x → a ≡ EntryExist → CreateTests img p x k a
-  create_12 : CanName img p x → (Known k → ⊥) → a ≡ InvalidParam → CreateTests img p x k a
-  create_13 : CanName img p x → k ≡ 2 → links img p ≡ full_links → a ≡ TooManyLinks → CreateTests img p x k a
-  create_14 : CanName img p x → Known k → (k ≡ 2 → links img p ≢ full_links) → unused img < create_takes (head_at img p Dir) k → a ≡ NoDeviceSpace
+pub data CreateTests (img : List ℕ) (p : ℕ) (x : List ℕ) (k : ℕ) (a : Result INodeId Refusal) : Type 0 where
+  create_6 : kind img p ≢ 2 → a ≡ Err NotDir → CreateTests img p x k a
+  create_8 : kind img p ≡ 2 → (Name x → ⊥) → a ≡ Err BadName → CreateTests img p x k a
+  create_9 : kind img p ≡ 2 → Name x → (j : ℕ) → j < entries img p → name img p j ≡ x → a ≡ Err EntryExist → CreateTests img p x k a
+  create_12 : CanName img p x → (Known k → ⊥) → a ≡ Err InvalidParam → CreateTests img p x k a
+  create_13 : CanName img p x → k ≡ 2 → links img p ≡ full_links → a ≡ Err TooManyLinks → CreateTests img p x k a
+  create_14 : CanName img p x → Known k → (k ≡ 2 → links img p ≢ full_links) → unused img < create_takes (head_at img p Dir) k → a ≡ Err NoDeviceSpace
       → CreateTests img p x k a
   create_done : CanCreate img p x k → a ≡ the_inode (lowest img 0 (blocks img)) → CreateTests img p x k a
 
 -- ---- 12
 
 is_known : (k : ℕ) → Known k → known_kind k ≡ true
-is_known k n =
-    let a = n.low in
-    let b = n.high in
-    rw (ne_eqb k 0 (λ e. omega arith), lt-ltb k 4 (omega arith))
+is_known k n = grind (arith, common_steps)
 
 unknown : (k : ℕ) → (Known k → ⊥) → known_kind k ≡ false
-unknown k n = go (ℕ_discrete k 0) (dec_lt k 4)
-  where
-    go : Dec (k ≡ 0) → Dec (k < 4) → known_kind k ≡ false
-    go (yes e) q = rw (eq-eqb k 0 e)
-    go (no e) (yes q) = absurd (n (record { low = omega arith; high = omega arith }))
-    go (no e) (no q) = rw (ne_eqb k 0 e, le-ltb k 4 (omega arith))
+unknown k n = grind (arith, common_steps)
 
 -- ---- 13 and 14
 
 module _ (nb : ℕ) (img : List ℕ) (h : Head) (k : ℕ) where
-  room_links : k ≡ 2 → h.nlinks ≡ full_links → create_room nb img h k ≡ TooManyLinks
+  room_links : k ≡ 2 → h.nlinks ≡ full_links → create_room nb img h k ≡ Err TooManyLinks
   unfolding create_room
   room_links e f = rw (eq-eqb k 2 e, eq-eqb h.nlinks full_links f)
 
@@ -76,15 +71,11 @@ module _ (nb : ℕ) (img : List ℕ) (h : Head) (k : ℕ) where
   room_by : (k ≡ 2 → h.nlinks ≢ full_links)
       → create_room nb img h k ≡ room_for img (create_takes h k) (the_inode (fresh_inode nb img))
   unfolding create_room
-  room_by d = go (ℕ_discrete k 2)
-    where
-      go : Dec (k ≡ 2) → create_room nb img h k ≡ room_for img (create_takes h k) (the_inode (fresh_inode nb img))
-      go (yes e) = simp (eq-eqb k 2 e, ne_eqb h.nlinks full_links (d e))
-      go (no e) = simp (ne_eqb k 2 e)
+  room_by d = grind (arith, common_steps)
 
 module _ {img l : List ℕ} (s : Sound img l) (p : ℕ) (h : 0 < cnt p l) (x : List ℕ) (k : ℕ) where
-  abbrev rest : Head → Acted
-  rest d = pick (known_kind k) (create_room (blocks img) img d k) InvalidParam
+  abbrev rest : Head → Result INodeId Refusal
+  rest d = pick (known_kind k) (create_room (blocks img) img d k) (Err InvalidParam)
 
   rest_room : Known k → rest (head_at img p Dir) ≡ create_room (blocks img) img (head_at img p Dir) k
   rest_room n = rw (is_known k n)
@@ -96,25 +87,14 @@ module _ {img l : List ℕ} (s : Sound img l) (p : ℕ) (h : 0 < cnt p l) (x : L
       ∙ room_by (blocks img) img (head_at img p Dir) k c.spare
       ∙ rw (le-ltb (unused img) (create_takes (head_at img p Dir) k) c.room, next_lowest img l s (omega (arith, c.room)))
 
-  full_none : Known k → (k ≡ 2 → links img p ≢ full_links) → unused img < create_takes (head_at img p Dir) k → rest (head_at img p Dir) ≡ NoDeviceSpace
-  full_none n d q =
-      rest_room n
-      ∙ room_by (blocks img) img (head_at img p Dir) k d
-      ∙ rw (lt-ltb (unused img) (create_takes (head_at img p Dir) k) q)
+  full_none : Known k → (k ≡ 2 → links img p ≢ full_links) → unused img < create_takes (head_at img p Dir) k → rest (head_at img p Dir) ≡ Err NoDeviceSpace
+  full_none n d q = grind (arith, common_steps, room_by)
 
   by_room : CanName img p x → Known k → (k ≡ 2 → links img p ≢ full_links) → CreateTests img p x k (rest (head_at img p Dir))
-  by_room c n d = go (dec_lt (unused img) (create_takes (head_at img p Dir) k))
-    where
-      go : Dec (unused img < create_takes (head_at img p Dir) k) → CreateTests img p x k (rest (head_at img p Dir))
-      go (yes q) = create_14 c n d q (full_none n d q)
-      go (no q) =
-          let g : CanCreate img p x k = record { name = c; known = n; spare = d; room = omega arith } in
-          create_done g (full_room g)
+  by_room c n d = grind (arith, common_steps, full_none, full_room)
 
   by_links : CanName img p x → Known k → Dec (k ≡ 2) → Dec (links img p ≡ full_links) → CreateTests img p x k (rest (head_at img p Dir))
-  by_links c n (yes e) (yes f) = create_13 c e f (rest_room n ∙ room_links (blocks img) img (head_at img p Dir) k e f)
-  by_links c n (yes e) (no f) = by_room c n (λ _. f)
-  by_links c n (no e) f = by_room c n (λ q. absurd (e q))
+  by_links c n t₁ f = grind (arith, common_steps, room_links, by_room)
 
   bad_kind : CanName img p x → (Known k → ⊥) → CreateTests img p x k (rest (head_at img p Dir))
   bad_kind c n = create_12 c n (rw (unknown k n))
@@ -135,7 +115,7 @@ module _ {img l : List ℕ} (s : Sound img l) (p : ℕ) (h : 0 < cnt p l) (x : L
       go (can c e) = rw e (by_kind c (ℕ_discrete k 0) (dec_lt 3 k))
 
   -- the causes exclude each other
-  pub create_exact : {a : Acted} → CreateTests img p x k a → a ≡ create_answer (blocks img) img p x k
+  pub create_exact : {a : Result INodeId Refusal} → CreateTests img p x k a → a ≡ create_answer (blocks img) img p x k
   unfolding create_answer
   create_exact (create_6 d e) = name_exact x rest (s.inode p h) (not_dir d e)
   create_exact (create_8 d n e) = name_exact x rest (s.inode p h) (bad_name d n e)
@@ -147,17 +127,6 @@ module _ {img l : List ℕ} (s : Sound img l) (p : ℕ) (h : 0 < cnt p l) (x : L
   create_exact (create_14 c n d q e) = name_exact x rest (s.inode p h) (can c (e ∙ sym (full_none n d q)))
   create_exact (create_done c e) = name_exact x rest (s.inode p h) (can c.name (e ∙ sym (full_room c)))
 
-pub create_can : {img : List ℕ} {p : ℕ} {x : List ℕ} {k : ℕ} {a : Acted} → CreateTests img p x k a → acted_no a ≡ 0
+pub create_can : {img : List ℕ} {p : ℕ} {x : List ℕ} {k : ℕ} {a : Result INodeId Refusal} → CreateTests img p x k a → answer_no a ≡ 0
     → CanCreate img p x k × (a ≡ the_inode (lowest img 0 (blocks img)))
-create_can (create_6 _ e) z = absurd (omega (arith, ap acted_no e))
-create_can (create_8 _ _ e) z = absurd (omega (arith, ap acted_no e))
-create_can (create_9 _ _ _ _ _ e) z = absurd (omega (arith, ap acted_no e))
-create_can (create_12 _ _ e) z = absurd (omega (arith, ap acted_no e))
-create_can (create_13 _ _ _ e) z = absurd (omega (arith, ap acted_no e))
-create_can (create_14 _ _ _ _ e) z = absurd (omega (arith, ap acted_no e))
-create_can (create_done c e) z = (c, e)
-
--- ---- the card
-
-pub create_refused : (nb : ℕ) (img : List ℕ) (p : ℕ) (x : List ℕ) (k : ℕ) → acted_no (create_answer nb img p x k) ≢ 0 → create_card nb img p x k ≡ img
-create_refused nb img p x k d = by-tag nb img p x k d
+create_can t₁ z = grind (arith, common_steps)

@@ -5,11 +5,10 @@ use mathlib.Core.List.{List, ◌∷◌}
 use mathlib.Core.Logic.{◌≢◌}
 use Prim.Native.Nat.{ℕ, ◌+◌, ◌≤◌, ◌<◌, ◌^◌}
 use native.Mathlib.Omega.{arith}
-use native.Mathlib.Decide.{ℕ_discrete}
+use Rattle.std.proofs.lemmas.Grind.{common_steps}
 use Rattle.words.specs.Words.{Bytes}
 use Rattle.words.specs.Sums.{δ, cnt}
 use Rattle.words.proofs.Sums.{δ_same, sum_on_cons}
-use Rattle.card_layout.specs.Sizes.{blocks_for}
 use Rattle.card_layout.specs.Super.{blocks, unused}
 use Rattle.card_layout.specs.Inode.{size, kind, count, with_links}
 use Rattle.card_layout.specs.Entry.{Name, entry_of}
@@ -49,20 +48,12 @@ number_fits {img} {l} s n h = omega (arith, inode_below img l s n h, s.sized.man
 
 -- a link to spare
 pub spare_link : (v : ℕ) → v < 65536 → v ≢ 65535 → v + 1 < 65536
-spare_link v b d = go (ℕ_discrete v 65535)
-  where
-    go : Dec (v ≡ 65535) → v + 1 < 65536
-    go (yes e) = absurd (d e)
-    go (no e) = omega arith
+spare_link v b d = grind (arith, common_steps)
 
 -- what a sound card's directory of one more entry takes
 pub append_takes : {img out l : List ℕ} {p v : ℕ} {e : List ℕ} → Sound img l → 0 < cnt p l → Appended img out p v e
     → unused out + needs (count img p) (size img p + 260) ≡ unused img
-append_takes {img} {out} {l} {p} s h a =
-    let t : Sound out l = edited_sound s h a.edited in
-    let c : count out p ≡ blocks_for (size img p + 260) = (t.inode p h).shape.counted ∙ ap blocks_for a.size_is in
-    let b : count img p ≤ blocks_for (size img p + 260) = omega (arith, (s.inode p h).shape.counted) in
-    omega (arith, takes_exactly s t h a.edited.balanced, ap owned c, owned_mono (count img p) (blocks_for (size img p + 260)) b)
+append_takes {img} {out} {l} {p} s h a = grind (arith, common_steps, edited_sound, takes_exactly, owned_mono)
 
 -- p is on `new` as it was on img
 module _ {img new l k : List ℕ} (s : Sound img l) (u : Sound new k) (bytes : Bytes new) (same_blocks : blocks new ≡ blocks img) (p : ℕ)

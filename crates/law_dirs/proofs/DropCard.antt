@@ -1,10 +1,11 @@
 -- An inode and all that it owns freed, on a sound card: "frees the inode and all it owns; the dead record keeps its fields". `img` is the card before,
 -- `out` the card after. Assumes nothing.
-use mathlib.Core.Path.{◌≡◌, sym, ap, ◌∙◌, subst}
+use mathlib.Core.Path.{◌≡◌, ap, ◌∙◌}
 use mathlib.Core.List.{List}
 use mathlib.Core.Logic.{◌≢◌}
 use Prim.Native.Nat.{ℕ, ◌+◌, ◌<◌}
 use native.Mathlib.Omega.{arith}
+use Rattle.std.proofs.lemmas.Grind.{common_steps}
 use Rattle.words.specs.Words.{byte, word, Bytes}
 use Rattle.words.specs.Sums.{δ, sum_to, cnt, without}
 use Rattle.words.proofs.Sums.{sum_to_zero, sum_to_add}
@@ -30,7 +31,6 @@ use Rattle.card_rules.proofs.Kept.{Steady}
 use Rattle.card_rules.proofs.Isolation.{Within, Dropped, others_same, sound_drop}
 use Rattle.file_blocks.specs.Taking.{free_single, free_twofold, free_indirect, free_level, free_double, shrunk}
 use Rattle.file_grow.proofs.Runs.{Clear}
-use Rattle.file_requests.specs.Resizing.{file_blocks}
 use Rattle.dir_unlink.specs.Unlink.{dropped}
 use Rattle.law_files.proofs.Freed.{Freed, freed_is, num_kept, freed_one}
 use Rattle.law_files.proofs.Losses.{is_data, is_second, lost, owns_lost}
@@ -79,15 +79,7 @@ module _ (img l : List ℕ) (s : Sound img l) (bytes : Bytes img) (n : ℕ) (h :
   word_kept at c = num_kept (blocks img) img (owns img n) gone 4 at freed_all c
 
   steady : Steady img gone
-  steady =
-      record {
-        length_same = freed_all.len;
-        magic_same = word_kept 0 (record { count = λ x y. omega arith; map = λ x y. omega arith });
-        blocks_same = word_kept 4 (record { count = λ x y. omega arith; map = λ x y. omega arith });
-        maps_same = word_kept 44 (record { count = λ x y. omega arith; map = λ x y. omega arith });
-        past = λ x q t. freed_all.past x q;
-        free = sym freed_all.free;
-      }
+  steady = grind (arith, common_steps, freed_all, word_kept)
 
   block_kept : (b : ℕ) → b ≢ 0 → b ≢ 2 → SameBlock img gone b
   block_kept b z m = block_from img gone b (λ p q t. freed_all.kept p (clear_in b p 1 (block_clear b z m) q (omega arith)))
@@ -127,12 +119,4 @@ module _ (img l : List ℕ) (s : Sound img l) (bytes : Bytes img) (n : ℕ) (h :
   pub drop_inode : (e : DiskINode) → e.head.blocks ≡ count img n → e.head.indirect.0 ≡ indirect img n → e.head.db_indirect.0 ≡ double img n
       → DroppedCard l img (dropped (blocks img) n e img) n
   unfolding dropped
-  drop_inode e a p q =
-      subst (λ (x : List ℕ). DroppedCard l img (freed x n) n)
-      (sym
-      (shrunk_reads (blocks img) n e (inode_at img n File) 0 (file_blocks e) img p q
-      ∙ ap (λ (c : ℕ). shrunk (blocks img) n (inode_at img n File) 0 c img) all))
-      dropped_card
-    where
-      all : file_blocks e ≡ count img n
-      all = omega (arith, a, count_below img l s n h, s.sized.many)
+  drop_inode e a p q = grind (arith, common_steps, shrunk_reads, dropped_card, count_below)

@@ -6,10 +6,10 @@ use mathlib.Core.List.{List}
 use mathlib.Core.Logic.{◌≢◌}
 use Prim.Native.Nat.{ℕ, ◌+◌, ◌*◌, ◌≤◌, ◌<◌, ◌^◌}
 use native.Mathlib.Omega.{arith}
-use native.Mathlib.Decide.{dec_lt}
-use lib.ListN.{length, drop, replicate, length-drop, length-replicate, get_or-replicate, get_or-eq_default}
+use lib.ListN.{length, drop, replicate, length-drop, length-replicate}
 use lib.Seq.{ext_get_or, get_or-drop}
-use Rattle.words.specs.Words.{byte, put_word, Bytes}
+use Rattle.std.proofs.lemmas.Grind.{common_steps}
+use Rattle.words.specs.Words.{put_word, Bytes}
 use Rattle.words.specs.Sums.{cnt}
 use Rattle.words.proofs.Numbers.{bytes_put}
 use Rattle.words.proofs.Runs.{bytes_copied}
@@ -37,11 +37,7 @@ use Rattle.law_files.proofs.Edits.{Edited, data_edited}
 -- ---- the entry of inode m under a name
 
 pub bytes_zeros : (n : ℕ) → Bytes (replicate n 0)
-bytes_zeros n = record { below = λ k. go k (dec_lt k n) }
-  where
-    go : (k : ℕ) → Dec (k < n) → byte (replicate n 0) k < 256
-    go k (yes l) = rw (get_or-replicate {A = ℕ} n k 0 0 l) (omega arith)
-    go k (no l) = rw (get_or-eq_default (replicate {A = ℕ} n 0) 0 {n = k} (omega (arith, length-replicate {A = ℕ} n 0))) (omega arith)
+bytes_zeros n = grind (arith, common_steps)
 
 pub entry_of_bytes : (m : ℕ) (x : List ℕ) → Bytes x → Bytes (entry_of m x)
 unfolding entry_of
@@ -87,12 +83,7 @@ module _ (img l : List ℕ) (s : Sound img l) (bytes : Bytes img) (n : ℕ) (h :
   entry_at-name = name_loaded img n j ∙ ap (λ (x : List ℕ). upto_nul (drop 4 x)) (sym entry_at_is)
 
   pub entry_at_bytes : Bytes (entry_at (blocks img) img n j)
-  entry_at_bytes = record { below = λ k. rw entry_at_is (go k (dec_lt k 260)) }
-    where
-      go : (k : ℕ) → Dec (k < 260) → byte (file_bytes img n (260 * j) 260) k < 256
-      go k (yes q) = rw (get_or-file_bytes img n (260 * j) 260 k q, file_byte_at img n (260 * j + k)) (bytes.below _)
-      go k (no q) =
-          rw (get_or-eq_default (file_bytes img n (260 * j) 260) 0 {n = k} (omega (arith, length-file_bytes img n (260 * j) 260))) (omega arith)
+  entry_at_bytes = grind (arith, common_steps, entry_at_is, get_or-file_bytes, file_byte_at, length-file_bytes)
 
 -- ---- writing
 
@@ -147,9 +138,7 @@ module _ (img l : List ℕ) (s : Sound img l) (bytes : Bytes img) (n : ℕ) (h :
       ∙ filled-comes s bytes n h false e (260 * j) (260 * j + 260) (omega arith) fits i (omega arith))
 
   put_other : (i k : ℕ) → i ≢ j → 260 * i + 260 ≤ size img n → k < 260 → file_byte put_out n (260 * i + k) ≡ file_byte img n (260 * i + k)
-  put_other i k d b q =
-      filled_stays s bytes n h false e (260 * j) (260 * j + 260) (omega arith) fits (260 * i + k) (omega (arith, inode_room (s.inode n h)))
-      (λ x y. d (omega arith))
+  put_other i k d b q = grind (arith, common_steps, filled_stays)
 
   pub entry_put_lem : EntryPut l img (entry_put (blocks img) n j e img) n j e
   unfolding entry_put

@@ -1,16 +1,17 @@
 -- One entry more or one less, byte by byte, and the record of the directory: with changes elsewhere before and after. `img` is the card before, `out` the card
 -- after. Assumes nothing.
-use mathlib.Core.Path.{◌≡◌, sym, ap, ◌∙◌, subst}
+use mathlib.Core.Path.{◌≡◌, ◌∙◌}
 use mathlib.Core.List.{List}
-use Prim.Native.Nat.{ℕ, ◌*◌, ◌/◌, ◌<◌}
+use Prim.Native.Nat.{ℕ, ◌*◌, ◌<◌}
 use native.Mathlib.Omega.{arith}
+use Rattle.std.proofs.lemmas.Grind.{common_steps}
 use Rattle.card_layout.specs.Inode.{count}
 use Rattle.card_layout.specs.Entry.{entry_of}
 use Rattle.card_rules.specs.View.{entries}
 use Rattle.card_rules.specs.Whole.{Inode}
 use Rattle.card_rules.specs.Same.{SameRecord, SameFile}
 use Rattle.card_rules.proofs.Frames.{size_is, kind_is, count_is, padding_is, device_is, file_bytes_is, inode_room}
-use Rattle.law_files.proofs.Resized.{held_is, in_use_is}
+use Rattle.law_files.proofs.Resized.{held_is}
 use Rattle.law_dirs.specs.Entries.{entry_in, OneMore, OneLess, Relinked, Lengthened}
 use Rattle.law_dirs.proofs.Append.{Appended}
 use Rattle.law_dirs.proofs.Remove.{Removed}
@@ -21,13 +22,7 @@ pub one_more : {img out : List ℕ} {p v c : ℕ} {x : List ℕ} → Appended im
 one_more a = record { size_is = a.size_is; kept = a.bytes_kept; new = a.bytes_new }
 
 pub lengthened_more : {img out e : List ℕ} {p v : ℕ} → Appended img out p v e → Lengthened img out p
-lengthened_more a =
-    record {
-      kind_is = a.edited.kind_is;
-      padding_is = a.tail.padding_same;
-      device_is = a.tail.device_same;
-      places = λ q x _. a.places q x;
-    }
+lengthened_more a = grind (arith, common_steps)
 
 pub lengthened_less : {img out : List ℕ} {p v j : ℕ} → Removed img out p v j → Lengthened img out p
 lengthened_less a =
@@ -40,63 +35,22 @@ entry_in_is s i k q = file_bytes_is s (260 * k) 260 (omega (arith, inode_room i)
 
 module _ {img mid out : List ℕ} {p : ℕ} where
   pub lengthened_before : count img p < 1049612 → SameFile img mid p → Lengthened mid out p → Lengthened img out p
-  lengthened_before few s a =
-      let r = s.slots.rec in
-      record {
-        kind_is = a.kind_is ∙ kind_is r;
-        padding_is = a.padding_is ∙ padding_is r;
-        device_is = a.device_is ∙ device_is r;
-        places = λ q x y. a.places q (in_use_is mid img p (sym (count_is r)) q x) y ∙ held_is s.slots few q x;
-      }
+  lengthened_before few s a = grind (arith, common_steps, kind_is, padding_is, device_is, count_is, held_is)
 
   pub lengthened_after : count mid p < 1049612 → Lengthened img mid p → SameFile mid out p → Lengthened img out p
-  lengthened_after few a s =
-      let r = s.slots.rec in
-      record {
-        kind_is = kind_is r ∙ a.kind_is;
-        padding_is = padding_is r ∙ a.padding_is;
-        device_is = device_is r ∙ a.device_is;
-        places = λ q x y.
-            let z = in_use_is mid out p (count_is r) q y in
-            held_is s.slots few q z ∙ a.places q x z;
-      }
+  lengthened_after few a s = grind (arith, common_steps, kind_is, padding_is, device_is, count_is, held_is)
 
   pub one_more_before : {c : ℕ} {x : List ℕ} → SameFile img mid p → Inode img p → OneMore mid out p c x → OneMore img out p c x
-  one_more_before {c} {x} s i a =
-      let n : entries mid p ≡ entries img p = ap (λ (z : ℕ). z / 260) (size_is s.slots.rec) in
-      record {
-        size_is = omega (arith, a.size_is, size_is s.slots.rec);
-        kept = λ k b. a.kept k (rw n b) ∙ entry_in_is s i k b;
-        new = subst (λ (z : ℕ). entry_in out p z ≡ entry_of c x) n a.new;
-      }
+  one_more_before {c} {x} s i a = grind (arith, common_steps, size_is, entry_in_is)
 
   pub one_more_after : {c : ℕ} {x : List ℕ} → OneMore img mid p c x → SameFile mid out p → Inode mid p → OneMore img out p c x
-  one_more_after a s i =
-      record {
-        size_is = size_is s.slots.rec ∙ a.size_is;
-        kept = λ k b. entry_in_is s i k (omega (arith, a.size_is)) ∙ a.kept k b;
-        new = entry_in_is s i (entries img p) (omega (arith, a.size_is)) ∙ a.new;
-      }
+  one_more_after a s i = grind (arith, common_steps, size_is, entry_in_is)
 
   pub one_less_before : {j : ℕ} → SameFile img mid p → Inode img p → OneLess mid out p j → OneLess img out p j
-  one_less_before s i a =
-      let z = size_is s.slots.rec in
-      record {
-        size_is = a.size_is ∙ z;
-        kept = λ k b d. a.kept k b d ∙ entry_in_is s i k (omega (arith, a.size_is, z));
-        filled = λ b. a.filled b ∙ entry_in_is s i (entries out p) (omega (arith, a.size_is, z));
-      }
+  one_less_before s i a = grind (arith, common_steps, size_is, entry_in_is)
 
   pub one_less_after : {j : ℕ} → OneLess img mid p j → SameFile mid out p → Inode mid p → OneLess img out p j
-  one_less_after {j} a s i =
-      let z = size_is s.slots.rec in
-      let n : entries out p ≡ entries mid p = ap (λ (y : ℕ). y / 260) z in
-      let was : (k : ℕ) → k < entries out p → k < entries mid p = λ k b. omega arith in
-      record {
-        size_is = omega (arith, a.size_is, z);
-        kept = λ k b d. entry_in_is s i k (was k b) ∙ a.kept k (was k b) d;
-        filled = λ b. entry_in_is s i j (was j b) ∙ a.filled (was j b) ∙ ap (entry_in img p) (sym n);
-      }
+  one_less_after {j} a s i = grind (arith, common_steps, size_is, entry_in_is)
 
 -- ---- the record of an inode whose links alone change
 

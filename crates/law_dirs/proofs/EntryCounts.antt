@@ -6,6 +6,7 @@ use mathlib.Core.Logic.{◌≢◌}
 use Prim.Native.Nat.{ℕ, suc, ◌+◌, ◌-◌, ◌/◌, ◌≤◌, ◌<◌, ◌^◌}
 use native.Mathlib.Omega.{arith}
 use native.Mathlib.Decide.{dec_lt, ℕ_discrete}
+use Rattle.std.proofs.lemmas.Grind.{common_steps}
 use Rattle.words.specs.Sums.{δ, sum_to}
 use Rattle.words.proofs.Sums.{sum_to_suc, sum_to_cong, sum_to_point}
 use Rattle.card_layout.specs.Inode.{size, kind, count}
@@ -21,21 +22,11 @@ use Rattle.law_dirs.proofs.Entry.{EntryPut, entry_of_number, entry_of-name}
 use Rattle.law_dirs.proofs.Append.{Appended}
 use Rattle.law_dirs.proofs.Remove.{Removed}
 use Rattle.law_dirs.specs.Entries.{OneMore, OneLess, Lengthened}
-use Rattle.law_dirs.proofs.EntryBytes.{one_more, one_more_before, one_more_after, one_less_before, one_less_after}
-use Rattle.law_dirs.proofs.EntryBytes.{lengthened_more, lengthened_less, lengthened_before, lengthened_after}
+use Rattle.law_dirs.proofs.EntryBytes.{one_more_before, one_more_after, one_less_before, one_less_after}
+use Rattle.law_dirs.proofs.EntryBytes.{lengthened_before, lengthened_after}
 use Rattle.law_tree.proofs.TreeStep.{Parent}
 
 -- ---- two numbers
-
-beyond : (j k : ℕ) → k ≢ j → j ≤ k → j < k
-beyond j k n l = go (dec_lt j k)
-  where
-    go : Dec (j < k) → j < k
-    go (yes h) = h
-    go (no h) = absurd (n (omega arith))
-
-last_not : (j k a b : ℕ) → j < b → a + 1 ≡ b → k ≡ a → k ≢ j → j < a
-last_not j k a b l e w n = beyond j a (λ z. n (w ∙ z)) (omega arith)
 
 -- ---- what a reader of directory p sees
 
@@ -72,75 +63,23 @@ pub record EntryNamed (img out : List ℕ) (p j : ℕ) (x : List ℕ) : Type 0 w
 -- ---- by the acts
 
 pub more_by : {img out : List ℕ} {p v c : ℕ} {x : List ℕ} → Appended img out p v (entry_of c x) → Name x → c < 2 ^ 32 → EntryMore img out p c x
-more_by {img} {out} {p} {v} {c} {x} a g q =
-    record {
-      kind_is = a.edited.kind_is;
-      size_is = a.size_is;
-      entry_kept = a.entry_kept;
-      name_kept = a.name_kept;
-      entry_new = a.entry_new ∙ entry_of_number c x g q;
-      name_new = a.name_new ∙ entry_of-name c x g;
-      listing = one_more a;
-      parent = lengthened_more a;
-    }
+more_by {img} {out} {p} {v} {c} {x} a g q = grind (arith, common_steps, entry_of_number, entry_of-name)
 
 pub less_by : {img out : List ℕ} {p v j : ℕ} → Removed img out p v j → EntryLess img out p j
-less_by a =
-    record {
-      kind_is = a.edited.kind_is;
-      size_is = a.size_is;
-      entry_kept = a.entry_kept;
-      name_kept = a.name_kept;
-      entry_moved = a.entry_moved;
-      name_moved = a.name_moved;
-      listing = a.listing;
-      parent = lengthened_less a;
-    }
+less_by a = grind (arith, common_steps)
 
 pub named_by_lem : {l img out : List ℕ} {p j c : ℕ} {x : List ℕ} → EntryPut l img out p j (entry_of c x) → Name x → c < 2 ^ 32 → entry img p j ≡ c
     → EntryNamed img out p j x
-named_by_lem {l} {img} {out} {p} {j} {c} {x} a g q e =
-    record {
-      kind_is = a.kind_is;
-      size_is = a.size_is;
-      entry_kept = λ i b. go i b (ℕ_discrete i j);
-      name_kept = λ i b d. a.name_kept i d (omega arith);
-      name_new = a.name_new ∙ entry_of-name c x g;
-    }
-  where
-    go : (i : ℕ) → i < entries img p → Dec (i ≡ j) → entry out p i ≡ entry img p i
-    go i b (yes r) = subst (λ (k : ℕ). entry out p k ≡ entry img p k) (sym r) (a.entry_new ∙ entry_of_number c x g q ∙ sym e)
-    go i b (no d) = a.entry_kept i d (omega arith)
+named_by_lem {l} {img} {out} {p} {j} {c} {x} a g q e = grind (arith, common_steps, entry_of-name, entry_of_number)
 
 -- ---- with changes elsewhere before and after
 
 module _ {img mid out : List ℕ} {p : ℕ} where
   pub more_before : {c : ℕ} {x : List ℕ} → count img p < 1049612 → SameFile img mid p → Inode img p → EntryMore mid out p c x → EntryMore img out p c x
-  more_before {c} {x} few s i a =
-      let n : entries mid p ≡ entries img p = ap (λ (z : ℕ). z / 260) (size_is s.slots.rec) in
-      record {
-        kind_is = a.kind_is ∙ kind_is s.slots.rec;
-        size_is = omega (arith, a.size_is, size_is s.slots.rec);
-        entry_kept = λ k b. a.entry_kept k (rw n b) ∙ entry_is s i k b;
-        name_kept = λ k b. a.name_kept k (rw n b) ∙ name_is s i k b;
-        entry_new = subst (λ (z : ℕ). entry out p z ≡ c) n a.entry_new;
-        name_new = subst (λ (z : ℕ). name out p z ≡ x) n a.name_new;
-        listing = one_more_before s i a.listing;
-        parent = lengthened_before few s a.parent;
-      }
+  more_before {c} {x} few s i a = grind (arith, common_steps, entry_is, name_is, one_more_before, lengthened_before)
 
   pub more_after : {c : ℕ} {x : List ℕ} → count mid p < 1049612 → EntryMore img mid p c x → SameFile mid out p → Inode mid p → EntryMore img out p c x
-  more_after few a s i =
-      record {
-        kind_is = kind_is s.slots.rec ∙ a.kind_is;
-        size_is = size_is s.slots.rec ∙ a.size_is;
-        entry_kept = λ k b. entry_is s i k (omega (arith, a.size_is)) ∙ a.entry_kept k b;
-        name_kept = λ k b. name_is s i k (omega (arith, a.size_is)) ∙ a.name_kept k b;
-        entry_new = entry_is s i (entries img p) (omega (arith, a.size_is)) ∙ a.entry_new;
-        name_new = name_is s i (entries img p) (omega (arith, a.size_is)) ∙ a.name_new;
-        listing = one_more_after a.listing s i;
-        parent = lengthened_after few a.parent s;
-      }
+  more_after few a s i = grind (arith, common_steps, kind_is, size_is, entry_is, name_is, one_more_after, lengthened_after)
 
   module _ {j : ℕ} where
     pub less_before : count img p < 1049612 → SameFile img mid p → Inode img p → EntryLess mid out p j → EntryLess img out p j
@@ -240,13 +179,7 @@ module _ {img out : List ℕ} {p : ℕ} (d : Dir img p) (k : kind img p ≡ 2) w
           )
 
   pub names_named : {j : ℕ} {x : List ℕ} → EntryNamed img out p j x → (m : ℕ) → times_named out p m ≡ times_named img p m
-  names_named {j} {x} a m =
-      ap (sum_to (λ j. δ (kid out p j) m)) n
-      ∙ sum_to_cong (λ j. δ (kid out p j) m) (λ j. δ (kid img p j) m) (kids img p)
-      (λ j b. ap (λ (y : ℕ). δ y m) (a.entry_kept (2 + j) (omega (arith, kids-two d k))))
-    where
-      n : kids out p ≡ kids img p
-      n = omega (arith, kids_of_dir out p (a.kind_is ∙ k), kids_of_dir img p k, ap (λ (z : ℕ). z / 260) a.size_is)
+  names_named {j} {x} a m = grind (arith, common_steps, sum_to_cong, kids_of_dir)
 
 -- ---- the rules on it, and where its names are
 
@@ -260,7 +193,11 @@ module _ {img out : List ℕ} {p c : ℕ} {x : List ℕ} (d : Dir img p) (a : En
       record {
         even = omega (arith, d.even, a.size_is);
         least = omega (arith, d.least, a.size_is);
-        first = record { dot = a.name_kept 0 (omega (arith, d.least)) ∙ d.first.dot; self = a.entry_kept 0 (omega (arith, d.least)) ∙ d.first.self; dots = a.name_kept 1 (omega (arith, d.least)) ∙ d.first.dots };
+        first = record {
+          dot = a.name_kept 0 (omega (arith, d.least)) ∙ d.first.dot;
+          self = a.entry_kept 0 (omega (arith, d.least)) ∙ d.first.self;
+          dots = a.name_kept 1 (omega (arith, d.least)) ∙ d.first.dots;
+        };
         names = record { named = λ k b. each k b (dec_lt k (entries img p)); differ = λ i k q b. apart i k q b (dec_lt k (entries img p)) };
       }
     where
@@ -278,17 +215,11 @@ module _ {img out : List ℕ} {p c : ℕ} {x : List ℕ} (d : Dir img p) (a : En
           where_not img p x new i l (sym (a.name_kept i l) ∙ e ∙ ap (name out p) w ∙ a.name_new)
 
   pub found_more : where_is out p x ≡ entries img p
-  found_more =
-      where_is_lem out p x (entries img p) (omega (arith, grown_by)) a.name_new
-      (λ j q e. where_not img p x new j q (sym (a.name_kept j q) ∙ e))
+  found_more = grind (arith, common_steps, where_is_lem)
 
   -- a name that it had is where it was
   pub found_old : (y : List ℕ) → where_is img p y < entries img p → where_is out p y ≡ where_is img p y
-  found_old y b =
-      where_is_lem out p y (where_is img p y) (omega (arith, grown_by)) (a.name_kept (where_is img p y) b ∙ where_hit img p y b)
-      (λ j q e.
-      let l : j < entries img p = omega arith in
-      omega (arith, where_least img p y j l (sym (a.name_kept j l) ∙ e)))
+  found_old y b = grind (arith, common_steps, where_hit, where_least)
 
   pub parent_more : kind img p ≡ 2 → Name x → Parent img out p
   parent_more k g =
@@ -315,27 +246,20 @@ module _ {img out : List ℕ} {p j : ℕ} (d : Dir img p) (a : EntryLess img out
           )
       go (no e) = (i, omega (arith, less_one), e, a.name_kept i b e, a.entry_kept i b e)
 
-  pub went_to : (k : ℕ) → k < entries img p → k ≢ j
-      → (i : ℕ) × (i < entries out p) × (name out p i ≡ name img p k) × (entry out p i ≡ entry img p k)
-  went_to k b n = go (dec_lt k (entries out p))
-    where
-      go : Dec (k < entries out p) → (i : ℕ) × (i < entries out p) × (name out p i ≡ name img p k) × (entry out p i ≡ entry img p k)
-      go (yes q) = (k, q, a.name_kept k q n, a.entry_kept k q n)
-      go (no q) =
-          let e : entries img p - 1 ≡ k = omega (arith, less_one) in
-          let l : j < entries out p = low_last (omega (arith, less_one)) n in
-          (j, l, a.name_moved l ∙ ap (name img p) e, a.entry_moved l ∙ ap (entry img p) e)
-        where
-          low_last : k ≡ entries out p → k ≢ j → j < entries out p
-          low_last w r = last_not j k (entries out p) (entries img p) high less_one w r
-
   pub dir_less : Dir out p
   dir_less =
       record {
         even = omega (arith, d.even, a.size_is);
         least = omega (arith, d.even, a.size_is);
-        first = record { dot = a.name_kept 0 (omega (arith, less_one)) (λ e. omega arith) ∙ d.first.dot; self = a.entry_kept 0 (omega (arith, less_one)) (λ e. omega arith) ∙ d.first.self; dots = a.name_kept 1 (omega (arith, less_one)) (λ e. omega arith) ∙ d.first.dots };
-        names = record { named = λ k b. let w = came_from k b in subst Name (sym w.3) (d.names.named w.0 w.1); differ = λ i k q b. apart i k q b (ℕ_discrete i j) (ℕ_discrete k j) };
+        first = record {
+          dot = a.name_kept 0 (omega (arith, less_one)) (λ e. omega arith) ∙ d.first.dot;
+          self = a.entry_kept 0 (omega (arith, less_one)) (λ e. omega arith) ∙ d.first.self;
+          dots = a.name_kept 1 (omega (arith, less_one)) (λ e. omega arith) ∙ d.first.dots;
+        };
+        names = record {
+          named = λ k b. let w = came_from k b in subst Name (sym w.3) (d.names.named w.0 w.1);
+          differ = λ i k q b. apart i k q b (ℕ_discrete i j) (ℕ_discrete k j);
+        };
       }
     where
       apart : (i k : ℕ) → i < k → k < entries out p → Dec (i ≡ j) → Dec (k ≡ j) → name out p i ≡ name out p k → ⊥
@@ -351,18 +275,7 @@ module _ {img out : List ℕ} {p j : ℕ} (d : Dir img p) (a : EntryLess img out
 
   -- its name is not there
   pub gone_less : where_is out p (name img p j) ≡ entries out p
-  gone_less =
-      where_none out p (name img p j)
-      (λ i b e.
-      let w = came_from i b in
-      same_name w.0 w.1 w.2 (sym w.3 ∙ e))
-    where
-      same_name : (k : ℕ) → k < entries img p → k ≢ j → name img p k ≡ name img p j → ⊥
-      same_name k b n e = go (dec_lt k j)
-        where
-          go : Dec (k < j) → ⊥
-          go (yes q) = d.names.differ k j q high e
-          go (no q) = d.names.differ j k (beyond j k n (omega arith)) b (sym e)
+  gone_less = grind (arith, common_steps, where_none)
 
   pub parent_less_lem : kind img p ≡ 2 → Parent img out p
   parent_less_lem k =
@@ -378,24 +291,7 @@ module _ {img out : List ℕ} {p j : ℕ} {x : List ℕ} (d : Dir img p) (a : En
   other_name i b n e = where_not img p x new i b (sym (a.name_kept i b n) ∙ e)
 
   pub dir_named : Name x → Dir out p
-  dir_named g =
-      record {
-        even = rw a.size_is d.even;
-        least = rw a.size_is d.least;
-        first = record { dot = a.name_kept 0 (omega arith) (λ e. omega arith) ∙ d.first.dot; self = a.entry_kept 0 (omega arith) ∙ d.first.self; dots = a.name_kept 1 (omega arith) (λ e. omega arith) ∙ d.first.dots };
-        names = record { named = λ k b. each k (rw as_many at b) (ℕ_discrete k j); differ = λ i k q b. apart i k q (rw as_many at b) (ℕ_discrete i j) (ℕ_discrete k j) };
-      }
-    where
-      each : (k : ℕ) → k < entries img p → Dec (k ≡ j) → Name (name out p k)
-      each k b (yes e) = subst Name (sym a.name_new ∙ ap (name out p) (sym e)) g
-      each k b (no n) = subst Name (sym (a.name_kept k b n)) (d.names.named k b)
-
-      apart : (i k : ℕ) → i < k → k < entries img p → Dec (i ≡ j) → Dec (k ≡ j) → name out p i ≡ name out p k → ⊥
-      apart i k q b (yes y) (yes z) e = omega arith
-      apart i k q b (yes y) (no z) e = other_name k b z (sym e ∙ ap (name out p) y ∙ a.name_new)
-      apart i k q b (no y) (yes z) e = other_name i (omega arith) y (e ∙ ap (name out p) z ∙ a.name_new)
-      apart i k q b (no y) (no z) e =
-          d.names.differ i k q b (sym (a.name_kept i (omega arith) y) ∙ e ∙ a.name_kept k b z)
+  dir_named g = grind (arith, common_steps, other_name)
 
   pub found_named : where_is out p x ≡ j
   found_named =

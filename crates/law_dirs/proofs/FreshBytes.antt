@@ -1,14 +1,14 @@
 -- The bytes that format writes, on a slice of any bytes: the root's record with its two entries, and the map. Assumes nothing.
-use mathlib.Core.Path.{◌≡◌, refl, sym, ap, ◌∙◌}
+use mathlib.Core.Path.{◌≡◌, sym, ap, ◌∙◌}
 use mathlib.Core.List.{List}
-use mathlib.Core.Logic.{◌≢◌}
-use Prim.Native.Nat.{ℕ, zero, suc, ◌+◌, ◌*◌, ◌/◌, ◌%◌, ◌^◌, ◌≤◌, ◌<◌}
+use Prim.Native.Nat.{ℕ, zero, suc, ◌+◌, ◌*◌, ◌/◌, ◌^◌, ◌≤◌, ◌<◌}
 use native.Mathlib.Omega.{arith}
-use native.Mathlib.Decide.{dec_lt, ℕ_discrete}
+use native.Mathlib.Decide.{dec_lt}
 use native.Mathlib.Nat.{zero-div}
 use lib.Dec.{T, ltb, ltb→lt, lit≤}
 use lib.ListN.{length, get_or-replicate, get_or-eq_default}
 use lib.Seq.{ext_get_or}
+use Rattle.std.proofs.lemmas.Grind.{common_steps}
 use Rattle.words.specs.Words.{byte, num, Bytes}
 use Rattle.words.specs.Inner.{Apart}
 use Rattle.words.specs.Runs.{copied, zeroed, turns}
@@ -29,24 +29,10 @@ use Rattle.card_layout.specs.Entry.{Name, entry_of}
 use Rattle.card_layout.specs.declared.inode.FileType.TheVariants.{Dir}
 use Rattle.card_layout.specs.declared.inode.DiskINode.{DiskINode}
 use Rattle.card_layout.specs.declared.BlockId.{BlockId}
-use Rattle.card_layout.proofs.InodeLaws.{
-  new_inode_fits,
-  length-encoded,
-  size-encoded,
-  kind-encoded,
-  links-encoded,
-  count-encoded,
-  indirect-encoded,
-  double-encoded,
-  padding-encoded,
-  device-encoded,
-  direct-encoded,
-  byte-encoded_off,
-  bytes_encoded,
-}
+use Rattle.card_layout.proofs.InodeLaws.{length-encoded, size-encoded, kind-encoded, links-encoded, count-encoded, indirect-encoded, double-encoded, padding-encoded, device-encoded, direct-encoded, byte-encoded_off, bytes_encoded}
 use Rattle.card_layout.proofs.EntryLaws.{entry_number, entry_name_byte, entry_after}
 use Rattle.card_layout.proofs.Names.{upto_is}
-use Rattle.card_map.specs.Bits.{map_byte, map_bit, set_bit}
+use Rattle.card_map.specs.Bits.{map_bit, set_bit}
 use Rattle.card_map.proofs.Map.{length-set_bit, byte-set_bit_off, bit_set_same, bit_set_other, bytes_set_bit}
 use Rattle.card_rules.specs.View.{file_byte, file_bytes, entry, name}
 use Rattle.card_rules.proofs.Views.{data_direct, file_byte_at, entry_at, name_at, length-file_bytes, get_or-file_bytes}
@@ -81,12 +67,15 @@ module _ (img : List ℕ) (n k m : ℕ) (x : List ℕ) (named : Name x) (here : 
   entry_there h =
       entry_at img n k
       ∙ num_moved 4 (file_bytes img n (260 * k) 4) (entry_of m x) 0 0
-      (λ i l. get_or-file_bytes img n (260 * k) 4 (0 + i) (omega arith) ∙ ap (λ (j : ℕ). file_byte img n (260 * k + j)) (omega arith) ∙ here i (omega arith) ∙ ap (byte (entry_of m x)) (omega arith))
+      (λ i l.
+      get_or-file_bytes img n (260 * k) 4 (0 + i) (omega arith)
+      ∙ ap (λ (j : ℕ). file_byte img n (260 * k + j)) (omega arith)
+      ∙ here i (omega arith)
+      ∙ ap (byte (entry_of m x)) (omega arith))
       ∙ entry_number m x named.high h
 
   name-byte : (i : ℕ) → i < 256 → byte (file_bytes img n (260 * k + 4) 256) i ≡ byte (entry_of m x) (4 + i)
-  name-byte i l =
-      get_or-file_bytes img n (260 * k + 4) 256 i l ∙ ap (file_byte img n) (let e : 260 * k + 4 + i ≡ 260 * k + (4 + i) = omega arith in e) ∙ here (4 + i) (omega arith)
+  name-byte i l = grind (arith, common_steps, get_or-file_bytes)
 
   pub name_there : name img n k ≡ x
   name_there =
@@ -102,22 +91,7 @@ abbrev pub root_at3 : DiskINode
 root_at3 = with_direct (with_blocks (with_size (with_links (new_inode Dir) 2) 520) 1) 0 3
 
 root_fits : Fitting root_at3
-root_fits =
-    record {
-      size = omega arith;
-      nlinks = omega arith;
-      blocks = omega arith;
-      indirect = omega arith;
-      double = omega arith;
-      padding = omega arith;
-      device = omega arith;
-      twelve = refl;
-      slots = low;
-    }
-  where
-    low : (k : ℕ) → number_at root_at3.direct k < 2 ^ 32
-    low zero = omega arith
-    low (suc k) = (new_inode_fits Dir).slots (suc k)
+root_fits = grind (arith, common_steps)
 
 dot-name : Name dot
 dot-name = name_tested dot (lit≤ tt) (lit≤ tt) tt
@@ -165,10 +139,7 @@ module _ (x : List ℕ) (long : 65536 ≤ length x) where
   root_slot = field 4 4108 (omega arith) ∙ direct-encoded x 1 root_at3 (omega arith) root_fits 0 (omega arith)
 
   root_byte : (o : ℕ) → o < 4096 → file_byte (rooted x) 1 o ≡ byte (rooted x) (12288 + o)
-  root_byte o l =
-      let q : o / 4096 ≡ 0 = omega arith in
-      let r : o % 4096 ≡ o = omega arith in
-      file_byte_at (rooted x) 1 o ∙ rw (q, r, data_direct (rooted x) 1 0 (omega arith), root_slot)
+  root_byte o l = grind (arith, common_steps, file_byte_at, data_direct, root_slot)
 
   dot-byte : (i : ℕ) → i < 260 → file_byte (rooted x) 1 (260 * 0 + i) ≡ byte (entry_of 1 dot) i
   unfolding rooted
@@ -257,22 +228,7 @@ clear_map x long =
     }
 
 next_bit : (x : List ℕ) → 12288 ≤ length x → (n : ℕ) (y : List ℕ) → 4 + n < 32768 → Mapped x n y → Mapped x (suc n) (set_bit y (4 + n))
-next_bit x long n y small a =
-    record {
-      len = length-set_bit y (4 + n) ∙ a.len;
-      free = λ b l m. new b (λ d. a.free b l (omega arith)) (ℕ_discrete b (4 + n));
-      taken = λ b l h.
-          let d : b ≢ 4 + n = λ e. h (omega arith) (omega arith) in
-          bit_set_other y (4 + n) inside b d ∙ a.taken b l (λ p q. h p (omega arith));
-      off = λ k h. byte-set_bit_off y (4 + n) k (λ e. h (omega arith) (omega arith)) ∙ a.off k h;
-    }
-  where
-    inside : map_byte (4 + n) < length y
-    inside = omega (arith, a.len)
-
-    new : (b : ℕ) → (b ≢ 4 + n → map_bit y b ≡ 1) → Dec (b ≡ 4 + n) → map_bit (set_bit y (4 + n)) b ≡ 1
-    new b old (yes e) = ap (map_bit (set_bit y (4 + n))) e ∙ bit_set_same y (4 + n) inside
-    new b old (no d) = bit_set_other y (4 + n) inside b d ∙ old d
+next_bit x long n y small a = grind (arith, common_steps, length-set_bit, bit_set_other, byte-set_bit_off, bit_set_same)
 
 pub mapped_is : (x : List ℕ) → 12288 ≤ length x → (n : ℕ) → 4 + n ≤ 32768 → Mapped x n (turns (λ b y. set_bit y b) 4 n (zeroed x 8192 4096))
 mapped_is x long n h =

@@ -3,12 +3,12 @@
 use mathlib.Core.Path.{◌≡◌, refl, sym, ap, subst, ◌∙◌}
 use mathlib.Core.List.{List}
 use mathlib.Core.Logic.{◌⊎◌, ⊎_elim}
-use Prim.Native.Nat.{ℕ, zero, suc, ◌+◌, ◌-◌, ◌*◌, ◌/◌, ◌≤◌, ◌<◌}
+use Prim.Native.Nat.{ℕ, ◌+◌, ◌-◌, ◌*◌, ◌/◌, ◌≤◌, ◌<◌}
 use native.Mathlib.Omega.{arith}
 use native.Mathlib.Decide.{dec_lt}
-use borrow.Author.Tests.{lt-ltb, le-ltb}
 use lib.ListN.{length, drop}
 use lib.Seq.{get_or-take, get_or-drop}
+use Rattle.std.proofs.lemmas.Grind.{common_steps}
 use Rattle.words.specs.Words.{byte, num, Bytes}
 use Rattle.words.specs.Inner.{Apart}
 use Rattle.words.specs.Runs.{zeroed, turns}
@@ -20,31 +20,19 @@ use Rattle.card_layout.specs.Super.{right_magic, magic, blocks, unused, maps, su
 use Rattle.card_layout.specs.Entry.{entry_of}
 use Rattle.card_layout.specs.declared.superblock.SuperBlock.{SuperBlock}
 use Rattle.card_layout.proofs.SuperLaws.{SuperFits, length_super, magic_super, blocks_super, unused_super, maps_super, info_super, byte_super_off, bytes_super}
-use Rattle.card_map.specs.Bits.{map_byte, map_bit, set_bit, free_bits}
+use Rattle.card_map.specs.Bits.{map_bit, set_bit, free_bits}
 use Rattle.card_map.proofs.Map.{bit_is}
 use Rattle.card_rules.specs.View.{uses}
 use Rattle.card_rules.specs.Whole.{Inode, Sound, Whole}
 use Rattle.card_rules.proofs.Bare.{Bare, one, listed_one, bare_inode, bare_tree, bare_uses}
 use Rattle.dir_entries.specs.Names.{dot, dots}
-use Rattle.dir_answers.specs.Answers.{acted_no}
 use Rattle.dir_format.specs.Format.{format_answer, info_text, fresh_map, formatted, format_card}
-use Rattle.dir_answers.specs.declared.Acted.TheVariants.{Done, InvalidParam}
 use Rattle.law_dirs.specs.Entries.{entry_in, NewRecord}
-use Rattle.law_dirs.proofs.FreshBytes.{
-  bytes_tested,
-  rooted,
-  bytes_rooted,
-  length-rooted,
-  byte-rooted_off,
-  num-rooted,
-  rooted_bare,
-  rooted_record,
-  rooted_self,
-  rooted_up,
-  Mapped,
-  mapped_is,
-  bytes_mapped,
-}
+use Rattle.law_dirs.proofs.FreshBytes.{bytes_tested, rooted, bytes_rooted, length-rooted, byte-rooted_off, num-rooted, rooted_bare}
+use Rattle.law_dirs.proofs.FreshBytes.{rooted_record, rooted_self, rooted_up, Mapped, mapped_is, bytes_mapped}
+use Rattle.refusals.specs.Refusals.{answer_no, done}
+use Rattle.refusals.specs.declared.Refusal.TheVariants.{InvalidParam}
+use Rattle.std.specs.Prelude.{Err}
 
 -- ---- what a fresh card says
 
@@ -66,11 +54,7 @@ pub record Fresh (out : List ℕ) (nb : ℕ) : Type 0 where
 -- blocks 0 to 3 are in use once
 four : (b : ℕ) → b < 4 → δ 0 b + δ 2 b + (δ 1 b + δ 3 b) ≡ 1
 unfolding δ
-four zero l = refl
-four (suc zero) l = refl
-four (suc (suc zero)) l = refl
-four (suc (suc (suc zero))) l = refl
-four (suc (suc (suc (suc b)))) l = absurd (omega arith)
+four t₁ l = grind (arith, common_steps)
 
 -- such a card is whole
 module _ (out : List ℕ) (nb : ℕ) (few : fewest ≤ nb) (many : nb ≤ most) (long : 4096 * nb ≤ length out) (f : Fresh out nb) where
@@ -89,15 +73,7 @@ module _ (out : List ℕ) (nb : ℕ) (few : fewest ≤ nb) (many : nb ≤ most) 
   in_use = bare_uses out f.bare f.one_map
 
   unused_from : (b : ℕ) → 4 ≤ b → uses out one b ≡ 0
-  unused_from b l =
-      omega (
-        arith,
-        in_use b,
-        δ_other 0 b (λ e. omega arith),
-        δ_other 1 b (λ e. omega arith),
-        δ_other 2 b (λ e. omega arith),
-        δ_other 3 b (λ e. omega arith),
-      )
+  unused_from b l = grind (arith, common_steps, in_use, δ_other)
 
   pub fresh_sound : Sound out one
   unfolding maps_for
@@ -159,9 +135,7 @@ module _ (img : List ℕ) (nb : ℕ) (few : fewest ≤ nb) (many : nb ≤ most) 
 
   -- a bit of the map
   bit : (b : ℕ) → b < 32768 → map_bit (rooted (mapped nb img)) b ≡ map_bit (mapped nb img) b
-  bit b l =
-      bit_is (mapped nb img) (rooted (mapped nb img)) b
-      (byte-rooted_off (mapped nb img) mapped_long (map_byte b) (omega arith) (omega arith))
+  bit b l = grind (arith, common_steps, bit_is, byte-rooted_off, mapped_long)
 
   -- a byte of the text
   info : (k : ℕ) → k < 32 → byte (super_put img (super_of nb)) (12 + k) ≡ byte info_text k
@@ -198,18 +172,11 @@ module _ (img : List ℕ) (nb : ℕ) (few : fewest ≤ nb) (many : nb ≤ most) 
 
   -- "all else stays"
   pub fresh_rest : (k : ℕ) → 48 ≤ k → Apart k 1 4096 80 → Apart k 1 8192 4096 → Apart k 1 12288 520 → byte (formatted nb img) k ≡ byte img k
-  fresh_rest k a r m d =
-      ap (λ (x : List ℕ). byte x k) formatted_is
-      ∙ byte-rooted_off (mapped nb img) mapped_long k r d
-      ∙ map_is.off k m
-      ∙ byte_super_off img (super_of nb) (omega arith) (super_fits nb many) k a
+  fresh_rest k a r m d = grind (arith, common_steps, formatted_is, byte-rooted_off, mapped_long, map_is, byte_super_off)
 
   pub fresh_bytes : Bytes img → Bytes (formatted nb img)
   unfolding mapped
-  fresh_bytes h =
-      subst Bytes (sym formatted_is)
-      (bytes_rooted (mapped nb img)
-      (bytes_mapped (super_put img (super_of nb)) (nb - 4) (bytes_super img (super_of nb) h (bytes_tested info_text tt))))
+  fresh_bytes h = grind (arith, common_steps, formatted_is, bytes_rooted, bytes_mapped, bytes_super, bytes_tested)
 
   -- its one inode is the root
   abbrev pub fresh_card : Whole (formatted nb img)
@@ -228,36 +195,17 @@ pub record Fits (len space : ℕ) : Type 0 where
   pub many : blocks_for space ≤ most
   pub long : 4096 * blocks_for space ≤ len
 
-pub format_done : (len space : ℕ) → Fits len space → format_answer len space ≡ Done
+pub format_done : (len space : ℕ) → Fits len space → format_answer len space ≡ done
 unfolding format_answer
-format_done len space f =
-    rw (
-      le-ltb (blocks_for space) fewest f.few,
-      le-ltb most (blocks_for space) f.many,
-      le-ltb len (4096 * blocks_for space) f.long,
-    )
+format_done len space f = grind (arith, common_steps)
 
-fits_or_refused : (len space : ℕ) → Fits len space ⊎ (format_answer len space ≡ InvalidParam)
+fits_or_refused : (len space : ℕ) → Fits len space ⊎ (format_answer len space ≡ Err InvalidParam)
 unfolding format_answer
-fits_or_refused len space =
-    go (dec_lt (blocks_for space) fewest) (dec_lt most (blocks_for space)) (dec_lt len (4096 * blocks_for space))
-  where
-    go : Dec (blocks_for space < fewest) → Dec (most < blocks_for space) → Dec (len < 4096 * blocks_for space)
-        → Fits len space ⊎ (format_answer len space ≡ InvalidParam)
-    go (yes a) q r = ◌⊎◌.inr (rw (lt-ltb (blocks_for space) fewest a))
-    go (no a) (yes b) r = ◌⊎◌.inr (rw (le-ltb (blocks_for space) fewest (omega arith), lt-ltb most (blocks_for space) b))
-    go (no a) (no b) (yes c) =
-        ◌⊎◌.inr
-        (rw (
-          le-ltb (blocks_for space) fewest (omega arith),
-          le-ltb most (blocks_for space) (omega arith),
-          lt-ltb len (4096 * blocks_for space) c,
-        ))
-    go (no a) (no b) (no c) = ◌⊎◌.inl (record { few = omega arith; many = omega arith; long = omega arith })
+fits_or_refused len space = grind (arith, common_steps)
 
 -- where it is done the limits hold; the card is then the fresh one
-pub format_fits : (len space : ℕ) → acted_no (format_answer len space) ≡ 0 → Fits len space
-format_fits len space d = ⊎_elim (λ f. f) (λ e. absurd (omega (arith, d, ap acted_no e))) (fits_or_refused len space)
+pub format_fits : (len space : ℕ) → answer_no (format_answer len space) ≡ 0 → Fits len space
+format_fits len space d = ⊎_elim (λ f. f) (λ e. absurd (omega (arith, d, ap answer_no e))) (fits_or_refused len space)
 
 pub format_card_lem : (img : List ℕ) (space : ℕ) → Fits (length img) space → format_card img space ≡ formatted (blocks_for space) img
 unfolding format_card
@@ -265,17 +213,13 @@ format_card_lem img space f = rw (format_done (length img) space f)
 
 -- 0 exactly within the limits, else 12 and the card as it was
 pub format_exactly : (img : List ℕ) (space : ℕ)
-    → (Fits (length img) space → acted_no (format_answer (length img) space) ≡ 0)
-    × (acted_no (format_answer (length img) space) ≡ 0 → Fits (length img) space)
-    × ((Fits (length img) space → ⊥) → (acted_no (format_answer (length img) space) ≡ 12) × (format_card img space ≡ img))
+    → (Fits (length img) space → answer_no (format_answer (length img) space) ≡ 0)
+    × (answer_no (format_answer (length img) space) ≡ 0 → Fits (length img) space)
+    × ((Fits (length img) space → ⊥) → (answer_no (format_answer (length img) space) ≡ 12) × (format_card img space ≡ img))
 unfolding format_card
-format_exactly img space = (
-  λ f. ap acted_no (format_done (length img) space f),
-  format_fits (length img) space,
-  λ n. ⊎_elim (λ f. absurd (n f)) (λ e. (ap acted_no e, rw e)) (fits_or_refused (length img) space),
-)
+format_exactly img space = grind (arith, common_steps, format_done, fits_or_refused)
 
-pub format_whole : (img : List ℕ) (space : ℕ) → acted_no (format_answer (length img) space) ≡ 0 → Whole (format_card img space)
+pub format_whole : (img : List ℕ) (space : ℕ) → answer_no (format_answer (length img) space) ≡ 0 → Whole (format_card img space)
 format_whole img space d =
     let f : Fits (length img) space = format_fits (length img) space d in
     subst Whole (sym (format_card_lem img space f)) (fresh_card img (blocks_for space) f.few f.many f.long)

@@ -5,7 +5,8 @@ use mathlib.Core.List.{List, [], ◌∷◌}
 use Prim.Native.Nat.{ℕ, zero, suc, ◌+◌, ◌-◌, ◌*◌, ◌≤◌, min}
 use native.Mathlib.Omega.{arith}
 use lib.Dec.{ltb}
-use Rattle.words.specs.Words.{pick, put_num, put_half, put_word, put_long}
+use Rattle.std.proofs.lemmas.Grind.{common_steps}
+use Rattle.words.specs.Words.{pick, put_num, put_half, put_word}
 use Rattle.words.specs.Runs.{turns}
 use Rattle.words.proofs.Numbers.{put_comm, put_put}
 use Rattle.card_layout.specs.Sizes.{blocks_for}
@@ -13,29 +14,7 @@ use Rattle.card_layout.specs.Inode.{head_with, with_size, with_links, put_words,
 use Rattle.card_layout.specs.declared.BlockId.{BlockId}
 use Rattle.card_layout.specs.declared.inode.Head.{Head}
 use Rattle.card_layout.specs.declared.inode.DiskINode.{DiskINode}
-use Rattle.file_blocks.specs.Taking.{
-  Growing,
-  moved,
-  grow_indirect,
-  grow_double,
-  grow_level,
-  grow_direct,
-  grow_single,
-  grow_twofold,
-  grown,
-  into_direct,
-  into_indirect,
-  into_double,
-  free_direct,
-  free_single,
-  free_twofold,
-  free_indirect,
-  free_level,
-  free_double,
-  shrunk,
-  less_indirect,
-  less_double,
-}
+use Rattle.file_blocks.specs.Taking.{Growing, moved, grow_indirect, grow_double, grow_level, grow_direct, grow_single, grow_twofold, grown, into_direct, free_direct, free_single, free_twofold, free_indirect, free_level, free_double, shrunk, less_indirect, less_double}
 use Rattle.file_requests.specs.Resizing.{of_length, growth, lengthened, file_blocks, shorter}
 use Rattle.law_files.proofs.Losses.{less_both}
 
@@ -58,21 +37,11 @@ words_links m xs a v b (w ∷ ws) h =
 module _ (xs : List ℕ) (at : ℕ) (h : Head) (v : ℕ) where
   front_links : put_front xs at (head_links h v) ≡ put_half (put_front xs at h) (at + 6) v
   unfolding put_front
-  front_links =
-      sym
-      (put_comm 2 4 _ (at + 6) v (at + 8) h.blocks (λ p q. omega arith)
-      ∙ ap (λ (x : List ℕ). put_word x (at + 8) h.blocks) (put_put 2 _ (at + 6) h.nlinks v))
+  front_links = grind (arith, common_steps, put_comm, put_put)
 
   back_links : put_back (put_half xs (at + 6) v) at (head_links h v) ≡ put_half (put_back xs at h) (at + 6) v
   unfolding put_back
-  back_links =
-      sym
-      (put_comm 2 8 _ (at + 6) v (at + 72) _ (λ p q. omega arith)
-      ∙ ap (λ (x : List ℕ). put_long x (at + 72) h.device_inode_id)
-      (put_comm 2 4 _ (at + 6) v (at + 68) _ (λ p q. omega arith)
-      ∙ ap (λ (x : List ℕ). put_word x (at + 68) h.padding)
-      (put_comm 2 4 _ (at + 6) v (at + 64) _ (λ p q. omega arith)
-      ∙ ap (λ (x : List ℕ). put_word x (at + 64) h.db_indirect.0) (put_comm 2 4 xs (at + 6) v (at + 60) _ (λ p q. omega arith)))))
+  back_links = grind (arith, common_steps, put_comm)
 
 pub encoded_links : (x : List ℕ) (n : ℕ) (d : DiskINode) (v : ℕ) → encoded x n (with_links d v) ≡ relinked (encoded x n d) n v
 unfolding encoded
@@ -102,15 +71,11 @@ module _ (v : ℕ) where
   module _ (nb a b : ℕ) (g : Growing) where
     indirect-linked : grow_indirect nb a b (linked g) ≡ linked (grow_indirect nb a b g)
     unfolding grow_indirect
-    indirect-linked =
-        ap (λ (x : Growing). pick (ltb a 12) x (linked g)) (pick-linked (ltb b 12) g (into_indirect nb g))
-        ∙ pick-linked (ltb a 12) (pick (ltb b 12) g (into_indirect nb g)) g
+    indirect-linked = grind (arith, common_steps)
 
     double_linked : grow_double nb a b (linked g) ≡ linked (grow_double nb a b g)
     unfolding grow_double
-    double_linked =
-        ap (λ (x : Growing). pick (ltb a 1036) x (linked g)) (pick-linked (ltb b 1036) g (into_double nb g))
-        ∙ pick-linked (ltb a 1036) (pick (ltb b 1036) g (into_double nb g)) g
+    double_linked = grind (arith, common_steps)
 
     level_linked : grow_level nb a b (linked g) ≡ linked (grow_level nb a b g)
     unfolding grow_level

@@ -25,9 +25,7 @@ use Rattle.card_rules.proofs.Kept.{slots_few}
 use Rattle.card_rules.proofs.Isolation.{others_same}
 use Rattle.file_requests.specs.Requests.{needs}
 use Rattle.dir_entries.specs.Entries.{where_is, appended}
-use Rattle.dir_answers.specs.Answers.{acted_no}
 use Rattle.dir_link.specs.Link.{link_answer, linked, link_card}
-use Rattle.dir_answers.specs.declared.Acted.TheVariants.{Done}
 use Rattle.law_files.proofs.Resized.{held_is, in_use_is}
 use Rattle.law_files.proofs.Requests.{OfKind, of_kind, kinds}
 use Rattle.law_files.proofs.Files.{takes_exactly}
@@ -42,6 +40,8 @@ use Rattle.law_dirs.proofs.EntryCounts.{EntryMore, more_by, more_after, names_mo
 use Rattle.law_dirs.proofs.NameTests.{can_where}
 use Rattle.law_dirs.proofs.LinkTests.{CanLink, link_tests_lem, link_can}
 use Rattle.law_dirs.proofs.Creating.{number_fits, spare_link, append_there, append_takes}
+use Rattle.refusals.specs.Refusals.{answer_no}
+use Rattle.std.specs.Prelude.{Ok}
 
 -- directory p has the name x for inode c; l are the inodes before and after
 pub record LinkDone (l img out : List ℕ) (p : ℕ) (x : List ℕ) (c : ℕ) : Type 0 where
@@ -188,9 +188,9 @@ module _ {img : List ℕ} (w : Whole img) (bytes : Bytes img) (p : ℕ) (r : Rea
 -- ---- the call
 
 module _ {img : List ℕ} (w : Whole img) (bytes : Bytes img) (p : ℕ) (r : Reached img p) (x : List ℕ) (src : Bytes x) (c : ℕ) (u : Reached img c)
-    (done : link_answer img p x c ≡ Done) where
+    (done : link_answer img p x c ≡ Ok tt) where
   passed : CanLink img p x c
-  passed = (link_can (link_tests_lem w.sound p (omega (arith, w.tree.all p r)) x c (omega (arith, w.tree.all c u))) (ap acted_no done)).0
+  passed = (link_can (link_tests_lem w.sound p (omega (arith, w.tree.all p r)) x c (omega (arith, w.tree.all c u))) (ap answer_no done)).0
 
   card_is : (t : FileType) → OfKind img c t
       → link_card (blocks img) img p x c ≡ linked (blocks img) p (inode_at img p Dir) x c (inode_at img c t) img

@@ -1,30 +1,31 @@
 -- What link answers on a sound card, test by test: 6, 8, 9, 7, 13, 14; and that a refusal changes nothing. Assumes nothing.
-use mathlib.Core.Path.{◌≡◌, sym, ap, ◌∙◌}
+use mathlib.Core.Path.{◌≡◌, sym, ◌∙◌}
 use mathlib.Core.List.{List}
 use mathlib.Core.Logic.{◌≢◌}
 use Prim.Native.Nat.{ℕ, ◌+◌, ◌≤◌, ◌<◌}
 use native.Mathlib.Omega.{arith}
-use native.Mathlib.Decide.{dec_lt, ℕ_discrete}
-use borrow.Author.Tests.{lt-ltb, le-ltb, eq-eqb, ne_eqb}
+use borrow.Author.Tests.{eq-eqb}
+use Rattle.std.proofs.lemmas.Grind.{common_steps}
 use Rattle.card_layout.specs.Sizes.{full_links}
 use Rattle.words.specs.Sums.{cnt}
 use Rattle.card_layout.specs.Super.{unused}
 use Rattle.card_layout.specs.Inode.{size, kind, links, count, head_at, decoded}
 use Rattle.card_layout.specs.Entry.{Name}
 use Rattle.card_layout.specs.declared.inode.FileType.{FileType}
-use Rattle.card_layout.specs.declared.inode.FileType.TheVariants.{File, Dir, SymLink}
+use Rattle.card_layout.specs.declared.inode.FileType.TheVariants.{Dir}
 use Rattle.card_layout.specs.declared.inode.Head.{Head}
 use Rattle.card_rules.specs.View.{entries, name}
 use Rattle.card_rules.specs.Whole.{Sound}
 use Rattle.file_requests.specs.Requests.{needs}
-use Rattle.dir_answers.specs.Answers.{acted_no, of_head}
-use Rattle.dir_link.specs.Link.{link_room, link_answer, link_card}
-use Rattle.dir_answers.specs.declared.Acted.{Acted}
-use Rattle.dir_answers.specs.declared.Acted.TheVariants.{Done, NotDir, IsDir, BadName, EntryExist, TooManyLinks, NoDeviceSpace}
+use Rattle.dir_answers.specs.Answers.{of_head}
+use Rattle.dir_link.specs.Link.{link_room, link_answer}
 use Rattle.law_files.proofs.Requests.{OfKind, of_kind, kinds, Filelike, filelike, filelike_not}
 use Rattle.law_dirs.proofs.NameTests.{CanName, NameTests, not_dir, bad_name, exists, can, name_tests, name_tests_lem, name_exact}
-use Rattle.dir_link.proofs.LinkLaws.{link_refused as by-tag}
 use Rattle.law_dirs.proofs.Tests.{dir_not}
+use Rattle.refusals.specs.Refusals.{answer_no, done}
+use Rattle.refusals.specs.declared.Refusal.TheVariants.{NotDir, IsDir, BadName, EntryExist, TooManyLinks, NoDeviceSpace}
+use Rattle.refusals.specs.declared.Refusal.{Refusal}
+use Rattle.std.specs.Prelude.{Err, Result}
 
 -- what 7, 13 and 14 do not refuse: c is no directory and has a link to spare
 pub record CanLink (img : List ℕ) (p : ℕ) (x : List ℕ) (c : ℕ) : Type 0 where
@@ -34,42 +35,38 @@ pub record CanLink (img : List ℕ) (p : ℕ) (x : List ℕ) (c : ℕ) : Type 0 
   pub room : needs (count img p) (size img p + 260) ≤ unused img
 
 -- the answer a, by RULES' numbers
-pub data LinkTests (img : List ℕ) (p : ℕ) (x : List ℕ) (c : ℕ) (a : Acted) : Type 0 where
-  link_6 : kind img p ≢ 2 → a ≡ NotDir → LinkTests img p x c a
-  link_8 : kind img p ≡ 2 → (Name x → ⊥) → a ≡ BadName → LinkTests img p x c a
-  link_9 : kind img p ≡ 2 → Name x → (j : ℕ) → j < entries img p → name img p j ≡ x → a ≡ EntryExist → LinkTests img p x c a
-  link_7 : CanName img p x → kind img c ≡ 2 → a ≡ IsDir → LinkTests img p x c a
-  link_13 : CanName img p x → kind img c ≢ 2 → links img c ≡ full_links → a ≡ TooManyLinks → LinkTests img p x c a
-  link_14 : CanName img p x → kind img c ≢ 2 → links img c ≢ full_links → unused img < needs (count img p) (size img p + 260) → a ≡ NoDeviceSpace
+pub data LinkTests (img : List ℕ) (p : ℕ) (x : List ℕ) (c : ℕ) (a : Result Unit Refusal) : Type 0 where
+  link_6 : kind img p ≢ 2 → a ≡ Err NotDir → LinkTests img p x c a
+  link_8 : kind img p ≡ 2 → (Name x → ⊥) → a ≡ Err BadName → LinkTests img p x c a
+  link_9 : kind img p ≡ 2 → Name x → (j : ℕ) → j < entries img p → name img p j ≡ x → a ≡ Err EntryExist → LinkTests img p x c a
+  link_7 : CanName img p x → kind img c ≡ 2 → a ≡ Err IsDir → LinkTests img p x c a
+  link_13 : CanName img p x → kind img c ≢ 2 → links img c ≡ full_links → a ≡ Err TooManyLinks → LinkTests img p x c a
+  link_14 : CanName img p x → kind img c ≢ 2 → links img c ≢ full_links → unused img < needs (count img p) (size img p + 260) → a ≡ Err NoDeviceSpace
       → LinkTests img p x c a
-  link_done : CanLink img p x c → a ≡ Done → LinkTests img p x c a
+  link_done : CanLink img p x c → a ≡ done → LinkTests img p x c a
 
 module _ {img l : List ℕ} (s : Sound img l) (p : ℕ) (h : 0 < cnt p l) (x : List ℕ) (c : ℕ) (g : 0 < cnt c l) where
-  abbrev rest : Head → Acted
-  rest d = of_head (decoded img c) IsDir (λ e. link_room img d e)
+  abbrev rest : Head → Result Unit Refusal
+  rest d = of_head (decoded img c) (Err IsDir) (λ e. link_room img d e)
 
   module _ (t : FileType) (o : OfKind img c t) where
     rest_is : rest (head_at img p Dir) ≡ link_room img (head_at img p Dir) (head_at img c t)
     rest_is = rw o.decodes
 
     module _ (f : Filelike t) where
-      full : links img c ≡ full_links → rest (head_at img p Dir) ≡ TooManyLinks
+      full : links img c ≡ full_links → rest (head_at img p Dir) ≡ Err TooManyLinks
       unfolding link_room
       full e = rest_is ∙ rw (dir_not t (filelike_not t f), eq-eqb (links img c) full_links e)
 
-      short : links img c ≢ full_links → unused img < needs (count img p) (size img p + 260) → rest (head_at img p Dir) ≡ NoDeviceSpace
+      short : links img c ≢ full_links → unused img < needs (count img p) (size img p + 260) → rest (head_at img p Dir) ≡ Err NoDeviceSpace
       unfolding link_room
-      short d q =
-          rest_is
-          ∙ rw (dir_not t (filelike_not t f), ne_eqb (links img c) full_links d, lt-ltb (unused img) (needs (count img p) (size img p + 260)) q)
+      short d q = grind (arith, common_steps)
 
-      fine : links img c ≢ full_links → needs (count img p) (size img p + 260) ≤ unused img → rest (head_at img p Dir) ≡ Done
+      fine : links img c ≢ full_links → needs (count img p) (size img p + 260) ≤ unused img → rest (head_at img p Dir) ≡ done
       unfolding link_room
-      fine d q =
-          rest_is
-          ∙ rw (dir_not t (filelike_not t f), ne_eqb (links img c) full_links d, le-ltb (unused img) (needs (count img p) (size img p + 260)) q)
+      fine d q = grind (arith, common_steps)
 
-  of_dir : OfKind img c Dir → rest (head_at img p Dir) ≡ IsDir
+  of_dir : OfKind img c Dir → rest (head_at img p Dir) ≡ Err IsDir
   unfolding link_room
   of_dir o = rest_is Dir o
 
@@ -82,9 +79,7 @@ module _ {img l : List ℕ} (s : Sound img l) (p : ℕ) (h : 0 < cnt p l) (x : L
       (fine t o f d (omega arith))
 
   by_kind : CanName img p x → (t : FileType) → OfKind img c t → LinkTests img p x c (rest (head_at img p Dir))
-  by_kind n File o = by_room n File o tt (ℕ_discrete (links img c) full_links) (dec_lt (unused img) (needs (count img p) (size img p + 260)))
-  by_kind n Dir o = link_7 n o.number (of_dir o)
-  by_kind n SymLink o = by_room n SymLink o tt (ℕ_discrete (links img c) full_links) (dec_lt (unused img) (needs (count img p) (size img p + 260)))
+  by_kind n t₁ o = grind (arith, common_steps, by_room, of_dir)
 
   filed : kind img c ≢ 2 → (t : FileType) × OfKind img c t × Filelike t
   filed d = let k = kinds img c (s.inode c g) in (k.0, k.1, filelike k.0 (λ e. d (k.1.number ∙ e)))
@@ -100,7 +95,7 @@ module _ {img l : List ℕ} (s : Sound img l) (p : ℕ) (h : 0 < cnt p l) (x : L
       go (can n e) = let w = kinds img c (s.inode c g) in rw e (by_kind n w.0 w.1)
 
   -- the causes exclude each other
-  pub link_exact : {a : Acted} → LinkTests img p x c a → a ≡ link_answer img p x c
+  pub link_exact : {a : Result Unit Refusal} → LinkTests img p x c a → a ≡ link_answer img p x c
   unfolding link_answer
   link_exact (link_6 d e) = name_exact x rest (s.inode p h) (not_dir d e)
   link_exact (link_8 d n e) = name_exact x rest (s.inode p h) (bad_name d n e)
@@ -112,16 +107,5 @@ module _ {img l : List ℕ} (s : Sound img l) (p : ℕ) (h : 0 < cnt p l) (x : L
       let k = filed n.no_dir in
       name_exact x rest (s.inode p h) (can n.name (e ∙ sym (fine k.0 k.1 k.2 n.spare n.room)))
 
-pub link_can : {img : List ℕ} {p : ℕ} {x : List ℕ} {c : ℕ} {a : Acted} → LinkTests img p x c a → acted_no a ≡ 0 → CanLink img p x c × (a ≡ Done)
-link_can (link_6 _ e) z = absurd (omega (arith, ap acted_no e))
-link_can (link_8 _ _ e) z = absurd (omega (arith, ap acted_no e))
-link_can (link_9 _ _ _ _ _ e) z = absurd (omega (arith, ap acted_no e))
-link_can (link_7 _ _ e) z = absurd (omega (arith, ap acted_no e))
-link_can (link_13 _ _ _ e) z = absurd (omega (arith, ap acted_no e))
-link_can (link_14 _ _ _ _ e) z = absurd (omega (arith, ap acted_no e))
-link_can (link_done c e) z = (c, e)
-
--- ---- the card
-
-pub link_refused : (nb : ℕ) (img : List ℕ) (p : ℕ) (x : List ℕ) (c : ℕ) → acted_no (link_answer img p x c) ≢ 0 → link_card nb img p x c ≡ img
-link_refused nb img p x c d = by-tag img p x c nb d
+pub link_can : {img : List ℕ} {p : ℕ} {x : List ℕ} {c : ℕ} {a : Result Unit Refusal} → LinkTests img p x c a → answer_no a ≡ 0 → CanLink img p x c × (a ≡ done)
+link_can t₁ z = grind (arith, common_steps)

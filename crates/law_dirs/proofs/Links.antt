@@ -8,6 +8,7 @@ use native.Mathlib.Omega.{arith}
 use native.Mathlib.Decide.{dec_lt}
 use lib.Dec.{ltb}
 use lib.ListN.{length}
+use Rattle.std.proofs.lemmas.Grind.{common_steps}
 use Rattle.words.specs.Words.{pick, byte, num, Bytes}
 use Rattle.words.specs.Inner.{Apart}
 use Rattle.words.specs.Sums.{δ, sum_to, cnt}
@@ -27,7 +28,7 @@ use Rattle.card_rules.proofs.Views.{data_direct, data_indirect, data_double, sec
 use Rattle.card_rules.proofs.Cells.{rank, held-owned}
 use Rattle.card_rules.proofs.Owners.{owns-uses, inode_below, places_differ, not_zero, not_map}
 use Rattle.card_rules.specs.Same.{SameBlock, SameFile}
-use Rattle.card_rules.proofs.Frames.{block_from, block_slot, block_sym, block_trans, seconds_fit, inode_room}
+use Rattle.card_rules.proofs.Frames.{block_slot, block_sym, block_trans, seconds_fit, inode_room}
 use Rattle.card_rules.proofs.Kept.{SameSuper, SameMap, super_block, map_blocks, bit_of_lem, slots_few, magic_is, blocks_is, unused_is, maps_is}
 use Rattle.card_rules.proofs.Isolation.{Within, Balanced, others_same, sound_one}
 use Rattle.file_requests.specs.Resizing.{fitted}
@@ -55,10 +56,7 @@ module _ (img l : List ℕ) (s : Sound img l) (n : ℕ) (h : 0 < cnt n l) (v : �
   byte_far k a = byte_out 2 img (4096 * n + 6) v k a
 
   block_far : (b : ℕ) → b ≢ n → SameBlock img out b
-  block_far b d = block_from img out b (λ k p q. byte_far k (off k p q))
-    where
-      off : (k : ℕ) → 4096 * b ≤ k → k < 4096 * b + 4096 → Apart k 1 (4096 * n + 6) 2
-      off k p q x y = d (omega arith)
+  block_far b d = grind (arith, common_steps, byte_far)
 
   place_far : (p : Place) → InUse img n p → 0 < rank p → SameBlock img out (held img n p)
   place_far p u r = block_far (held img n p) (λ e. omega (arith, ap rank (places_differ img l s n n p at_inode h h u tt e).1))
@@ -145,13 +143,7 @@ module _ (img l : List ℕ) (s : Sound img l) (n : ℕ) (h : 0 < cnt n l) (v : �
   map_far = map_blocks (λ i q. block_far (2 + i) (λ e. not_map img l s n at_inode h tt i q (sym e)))
 
   inode_far : Inode out n
-  inode_far =
-      let i = s.inode n h in
-      record {
-        kind_low = rw kind_far i.kind_low;
-        kind_high = rw kind_far i.kind_high;
-        shape = record { counted = rw (count_far, size_far) i.shape.counted; single = record { from = rw (count_far, indirect_far) i.shape.single.from; to = rw (count_far, indirect_far) i.shape.single.to }; twofold = record { from = rw (count_far, double_far) i.shape.twofold.from; to = rw (count_far, double_far) i.shape.twofold.to } };
-      }
+  inode_far = grind (arith, common_steps, kind_far, count_far, size_far, indirect_far, double_far)
 
   edited_far : Bytes img → Edited img out n
   edited_far b =

@@ -6,7 +6,8 @@ use mathlib.Core.List.{List}
 use mathlib.Core.Logic.{◌≢◌}
 use Prim.Native.Nat.{ℕ, ◌+◌, ◌-◌, ◌*◌, ◌≤◌, ◌<◌, ◌^◌}
 use native.Mathlib.Omega.{arith}
-use native.Mathlib.Decide.{ℕ_discrete, dec_lt}
+use native.Mathlib.Decide.{ℕ_discrete}
+use Rattle.std.proofs.lemmas.Grind.{common_steps}
 use Rattle.words.specs.Words.{Bytes}
 use Rattle.words.specs.Sums.{cnt}
 use Rattle.words.proofs.Numbers.{num_lt}
@@ -25,33 +26,18 @@ use Rattle.dir_entries.specs.Entries.{where_is, entry_put}
 use Rattle.dir_entries.proofs.Lookup.{where_hit, where_none, where_not}
 use Rattle.dir_answers.specs.Answers.{named_by}
 use Rattle.dir_move.specs.Move.{up_put, move_answer, move_card}
-use Rattle.dir_answers.specs.declared.Acted.TheVariants.{Done}
 use Rattle.law_files.proofs.Edits.{steady_trans}
 use Rattle.law_dirs.specs.Entries.{entry_in}
 use Rattle.law_dirs.proofs.Entry.{EntryPut, entry_put_lem, entry_of-length, entry_of_bytes}
-use Rattle.law_dirs.proofs.EntryCounts.{
-  EntryMore,
-  EntryLess,
-  EntryNamed,
-  named_by_lem,
-  more_after,
-  less_after,
-  names_more,
-  names_less,
-  names_named,
-  found_more,
-  found_named,
-  gone_less,
-  parent_more,
-  parent_less_lem,
-  parent_named,
-}
+use Rattle.law_dirs.proofs.EntryCounts.{EntryMore, EntryLess, EntryNamed, named_by_lem, more_after, less_after, names_more, names_less}
+use Rattle.law_dirs.proofs.EntryCounts.{names_named, found_more, found_named, gone_less, parent_more, parent_less_lem, parent_named}
 use Rattle.law_tree.proofs.TreeMove.{Above, MovedFile, MovedDir, tree_move, tree_rename}
 use Rattle.law_dirs.proofs.Climb.{above_not, not_own_child}
 use Rattle.law_dirs.proofs.MoveDir.{Turned, TurnedDir, turn_up, turned_by, turned_names, turned_dir}
 use Rattle.law_dirs.proofs.MoveCarry.{carried_out, Carried, carry}
 use Rattle.law_dirs.proofs.MoveTests.{Roomy}
 use Rattle.law_dirs.proofs.MoveJudged.{Judged, judged, move_here, move_file, move_dir}
+use Rattle.std.specs.Prelude.{Ok}
 
 -- ---- what a move says
 
@@ -97,21 +83,12 @@ pub record MoveDone (l img out : List ℕ) (p : ℕ) (old : List ℕ) (j t c : �
 
 renamed_gone : {img out : List ℕ} {p j : ℕ} {old new : List ℕ} → Dir img p → EntryNamed img out p j new → j < entries img p → name img p j ≡ old
     → where_is img p new ≡ entries img p → where_is out p old ≡ entries out p
-renamed_gone {img} {out} {p} {j} {old} {new} d a high hit free =
-    where_none out p old (λ k b e. go k (rw a.size_is at b) e (ℕ_discrete k j))
-  where
-    go : (k : ℕ) → k < entries img p → name out p k ≡ old → Dec (k ≡ j) → ⊥
-    go k b e (yes q) = where_not img p new free j high (hit ∙ sym e ∙ ap (name out p) q ∙ a.name_new)
-    go k b e (no q) = twice (sym (a.name_kept k b q) ∙ e ∙ sym hit) (dec_lt k j)
-      where
-        twice : name img p k ≡ name img p j → Dec (k < j) → ⊥
-        twice z (yes l) = d.names.differ k j l high z
-        twice z (no l) = d.names.differ j k (omega arith) b (sym z)
+renamed_gone {img} {out} {p} {j} {old} {new} d a high hit free = grind (arith, common_steps, where_none, where_not)
 
 -- ---- a move that is done
 
 module _ {img : List ℕ} (w : Whole img) (bytes : Bytes img) (p t : ℕ) (old new : List ℕ) (src : Bytes new) (rp : Reached img p) (rt : Reached img t)
-    (done : move_answer (blocks img) img p old t new ≡ Done) where
+    (done : move_answer (blocks img) img p old t new ≡ Ok tt) where
   abbrev l : List ℕ
   l = w.inodes
 
@@ -368,7 +345,4 @@ module _ {img : List ℕ} (w : Whole img) (bytes : Bytes img) (p t : ℕ) (old n
 
   -- what was reached is, and nothing else
   pub move_reached : (m : ℕ) → (Reached img m → Reached out m) × (Reached out m → Reached img m)
-  move_reached m = (
-    λ r. move_done.tree.only m (reached_listed img w m r),
-    λ r. w.tree.only m (omega (arith, move_done.tree.all m r)),
-  )
+  move_reached m = grind (arith, common_steps, move_done)

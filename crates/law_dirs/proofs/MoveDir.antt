@@ -8,6 +8,7 @@ use Prim.Native.Nat.{ℕ, ◌+◌, ◌*◌, ◌≤◌, ◌<◌, ◌^◌}
 use native.Mathlib.Omega.{arith}
 use lib.ListN.{length, replicate, length-replicate}
 use lib.Seq.{ext_get_or}
+use Rattle.std.proofs.lemmas.Grind.{common_steps}
 use Rattle.words.specs.Words.{word, put_word, Bytes}
 use Rattle.words.specs.Sums.{cnt}
 use Rattle.words.proofs.Numbers.{length-put, num_same, bytes_put}
@@ -111,22 +112,7 @@ module _ {img mid out l : List ℕ} {c t : ℕ} (s : Sound img l) (h : 0 < cnt c
   both_slots = slots_trans (slots_few s c h) x.slots y.slots
 
   pub turned_by : TurnedDir img out c t
-  turned_by =
-      record {
-        slots = both_slots;
-        up = y.up;
-        kept = rest;
-        kind_same = kind_is both_slots.rec;
-        size_same = size_is both_slots.rec;
-        links_same = links_is both_slots.rec;
-        places = held_is both_slots (slots_few s c h);
-        entry_kept = λ i b d.
-            entry_cong out img c c i i
-            (λ k q. rest (260 * i + k) (omega (arith, inode_room (s.inode c h))) (λ u v. d (omega arith)));
-        name_kept = λ i b.
-            name_cong out img c c i i
-            (λ k q. rest (260 * i + 4 + k) (omega (arith, inode_room (s.inode c h))) (λ u v. omega arith));
-      }
+  turned_by = grind (arith, common_steps, both_slots, rest, kind_is, size_is, links_is, held_is, slots_few, entry_cong, name_cong)
 
 module _ {img out : List ℕ} {c t : ℕ} (d : Dir img c) (y : TurnedDir img out c t) where
   pub turned_names : (m : ℕ) → times_named out c m ≡ times_named img c m
@@ -135,18 +121,4 @@ module _ {img out : List ℕ} {c t : ℕ} (d : Dir img c) (y : TurnedDir img out
       (λ i b. y.entry_kept (2 + i) (kids_dir img c i b).1 (λ e. omega arith))
 
   pub turned_dir : Dir out c
-  turned_dir =
-      record {
-        even = rw y.size_same d.even;
-        least = rw y.size_same d.least;
-        first = record { dot = y.name_kept 0 (omega (arith, d.least)) ∙ d.first.dot; self = y.entry_kept 0 (omega (arith, d.least)) (λ e. omega arith) ∙ d.first.self; dots = y.name_kept 1 (omega (arith, d.least)) ∙ d.first.dots };
-        names = record {
-          named = λ i b. let h : i < entries img c = was i b in rw (y.name_kept i h) (d.names.named i h);
-          differ = λ i j l b e.
-              let h : j < entries img c = was j b in
-              d.names.differ i j l h (sym (y.name_kept i (omega arith)) ∙ e ∙ y.name_kept j h);
-        };
-      }
-    where
-      was : (i : ℕ) → i < entries out c → i < entries img c
-      was i b = rw y.size_same at b
+  turned_dir = grind (arith, common_steps)

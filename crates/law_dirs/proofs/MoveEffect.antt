@@ -7,24 +7,24 @@ use native.Mathlib.Omega.{arith}
 use native.Mathlib.Decide.{ℕ_discrete}
 use borrow.Author.Tests.{eq-eqb, ne_eqb}
 use lib.Dec.{eqb}
+use Rattle.std.proofs.lemmas.Grind.{common_steps}
 use Rattle.words.specs.Words.{pick, Bytes}
 use Rattle.words.specs.Sums.{cnt}
 use Rattle.card_layout.specs.Super.{blocks}
 use Rattle.card_layout.specs.Inode.{kind, links}
-use Rattle.card_rules.specs.View.{entries}
 use Rattle.card_rules.specs.Whole.{Reached, Whole}
 use Rattle.card_rules.proofs.Kept.{slots_few}
 use Rattle.card_rules.proofs.Tree.{reached_listed}
 use Rattle.dir_entries.specs.Entries.{where_is}
 use Rattle.dir_answers.specs.Answers.{named_by}
 use Rattle.dir_move.specs.Move.{move_answer, move_card}
-use Rattle.dir_answers.specs.declared.Acted.TheVariants.{Done}
 use Rattle.law_files.proofs.Resized.{held_is}
 use Rattle.law_dirs.specs.Effects.{RenameEffect, AcrossEffect, MoveEffect}
 use Rattle.law_dirs.proofs.EntryBytes.{relinked_record}
 use Rattle.law_dirs.proofs.CreateEffect.{needs-more}
 use Rattle.law_dirs.proofs.MoveCard.{MoveDone, MovedAcross, move_done}
 use Rattle.law_dirs.proofs.MoveTakes.{move_takes, rename_takes}
+use Rattle.std.specs.Prelude.{Ok}
 
 -- outside a run of bytes
 outside : (a b o : ℕ) → (o < a) ⊎ (b ≤ o) → a ≤ o → o < b → ⊥
@@ -91,23 +91,10 @@ module _ {img out : List ℕ} (w : Whole img) {p : ℕ} {old : List ℕ} {t : �
           dir_kept = λ k o b q. (x.dir k).turned.kept o b (outside 260 264 o q);
         }
 
-  old_gone : Dec (p ≡ t) → where_is out p old ≡ entries out p
-  old_gone (yes e) = (d.here e).0.gone
-  old_gone (no e) = (x e).gone
-
   pub move_by : MoveEffect img out p old t new
-  move_by =
-      record {
-        here = here;
-        across = across;
-        gone = old_gone (ℕ_discrete p t);
-        found = d.found;
-        others = λ m q. d.others m (reached_listed img w m q);
-        stay = λ m q. d.tree.only m (reached_listed img w m q);
-        inodes = λ m q. w.tree.only m (omega (arith, d.tree.all m q));
-      }
+  move_by = grind (arith, common_steps, here, across)
 
 module _ {img : List ℕ} (w : Whole img) (bytes : Bytes img) {new : List ℕ} (src : Bytes new) {p t : ℕ} {old : List ℕ} (rp : Reached img p)
-    (rt : Reached img t) (done : move_answer (blocks img) img p old t new ≡ Done) where
+    (rt : Reached img t) (done : move_answer (blocks img) img p old t new ≡ Ok tt) where
   pub move_effect : MoveEffect img (move_card (blocks img) img p old t new) p old t new
   move_effect = move_by w rp rt (move_done w bytes p t old new src rp rt done)

@@ -1,15 +1,15 @@
 -- The blocks of a move: from one directory to another those of N for the append, and what the shorter directory gives back. Assumes nothing.
-use mathlib.Core.Path.{◌≡◌, refl, sym, ap, ◌∙◌, subst}
+use mathlib.Core.Path.{◌≡◌, sym, ap, ◌∙◌}
 use mathlib.Core.List.{List}
 use mathlib.Core.Logic.{◌≢◌}
 use Prim.Native.Nat.{ℕ, ◌+◌, ◌≤◌, ◌<◌}
 use native.Mathlib.Omega.{arith}
-use native.Mathlib.Decide.{ℕ_discrete}
+use Rattle.std.proofs.lemmas.Grind.{common_steps}
 use Rattle.words.specs.Sums.{δ, cnt, sum_on, without}
 use Rattle.words.proofs.Sums.{δ_same, δ_other, sum_on-without, sum_on_cong}
 use Rattle.card_layout.specs.Sizes.{blocks_for}
 use Rattle.card_layout.specs.Super.{unused}
-use Rattle.card_layout.specs.Inode.{size, kind, count}
+use Rattle.card_layout.specs.Inode.{size, count}
 use Rattle.card_layout.specs.Slots.{owned}
 use Rattle.card_rules.specs.Whole.{Sound, Tree}
 use Rattle.card_rules.proofs.Counting.{set_and_owned}
@@ -49,12 +49,7 @@ module _ (f g : ℕ → ℕ) (l : List ℕ) (p t : ℕ) (apart : p ≢ t) (hp : 
 module _ {l img out : List ℕ} (s : Sound img l) (w : Tree img l) {p j t c : ℕ} {old new : List ℕ} (hp : 0 < cnt p l) (ht : 0 < cnt t l)
     (d : MoveDone l img out p old j t c new) (apart : p ≢ t) where
   count_same : (n : ℕ) → 0 < cnt n l → n ≢ p → n ≢ t → count out n ≡ count img n
-  count_same n h a b = go (ℕ_discrete n c) (ℕ_discrete (kind img c) 2)
-    where
-      go : Dec (n ≡ c) → Dec (kind img c ≡ 2) → count out n ≡ count img n
-      go (yes e) (yes k) = subst (λ (x : ℕ). count out x ≡ count img x) (sym e) (count_is ((d.across apart).dir k).turned.slots.rec)
-      go (yes e) (no k) = subst (λ (x : ℕ). count out x ≡ count img x) (sym e) (count_is (d.file k).slots.rec)
-      go (no e) k = count_is (d.others n h a b e).slots.rec
+  count_same n h a b = grind (arith, common_steps, count_is)
 
   pub move_takes : unused out + needs (count img t) (size img t + 260) + owned (count out p) ≡ unused img + owned (count img p)
   move_takes =
@@ -69,12 +64,7 @@ module _ {l img out : List ℕ} (s : Sound img l) (w : Tree img l) {p j t c : �
 -- a new name in one directory takes none
 module _ {l img out : List ℕ} (s : Sound img l) {p j c : ℕ} {old new : List ℕ} (d : MoveDone l img out p old j p c new) where
   here_same : (n : ℕ) → 0 < cnt n l → count out n ≡ count img n
-  here_same n h = go (ℕ_discrete n p) (ℕ_discrete n c)
-    where
-      go : Dec (n ≡ p) → Dec (n ≡ c) → count out n ≡ count img n
-      go (yes e) k = subst (λ (x : ℕ). count out x ≡ count img x) (sym e) (count_is (d.here refl).0.slots.rec)
-      go (no e) (yes k) = subst (λ (x : ℕ). count out x ≡ count img x) (sym k) (count_is (d.here refl).1.slots.rec)
-      go (no e) (no k) = count_is (d.others n h e e k).slots.rec
+  here_same n h = grind (arith, common_steps, count_is)
 
   pub rename_takes : unused out ≡ unused img
   rename_takes =

@@ -1,5 +1,5 @@
 -- What move answers on a whole card, test by test: source 6, 7, target 6, then 8, 9, 10, 12, 13, 14. Assumes nothing.
-use mathlib.Core.Path.{◌≡◌, refl, sym, ap, ◌∙◌}
+use mathlib.Core.Path.{◌≡◌, refl, sym, ◌∙◌}
 use mathlib.Core.Bool.{Bool, true, false}
 use mathlib.Core.List.{List}
 use mathlib.Core.Logic.{◌≢◌}
@@ -8,6 +8,7 @@ use native.Mathlib.Omega.{arith}
 use native.Mathlib.Decide.{dec_lt, ℕ_discrete}
 use borrow.Author.Tests.{lt-ltb, le-ltb, eq-eqb, ne_eqb}
 use lib.Dec.{eqb}
+use Rattle.std.proofs.lemmas.Grind.{common_steps}
 use Rattle.card_layout.specs.Sizes.{full_links}
 use Rattle.words.specs.Words.{pick}
 use Rattle.card_layout.specs.Super.{blocks, unused}
@@ -22,16 +23,18 @@ use Rattle.file_requests.specs.Requests.{needs}
 use Rattle.dir_entries.specs.Entries.{where_is}
 use Rattle.dir_entries.specs.Names.{is_dots}
 use Rattle.dir_entries.proofs.Lookup.{where_range, where_hit, where_not}
-use Rattle.dir_answers.specs.Answers.{acted_no, in_dir, named_by}
+use Rattle.dir_answers.specs.Answers.{in_dir, named_by}
 use Rattle.dir_move.specs.Move.{climbs, entry_room, dir_room, move_room, child_answer, source_answer, move_answer}
-use Rattle.dir_answers.specs.declared.Acted.{Acted}
-use Rattle.dir_answers.specs.declared.Acted.TheVariants.{Done, NotDir, IsDir, BadName, EntryExist, EntryNotFound, InvalidParam, TooManyLinks, NoDeviceSpace}
 use Rattle.law_files.proofs.Requests.{OfKind, of_kind, kinds}
 use Rattle.law_tree.proofs.TreeMove.{Above}
 use Rattle.law_dirs.proofs.Tests.{dir_not, whole_inode, DirTest, other, dir, dir_test, dir_exact, met, unmet}
 use Rattle.law_dirs.proofs.NameTests.{CanName, NameTests, not_dir, bad_name, exists, can, name_tests, name_tests_lem, name_exact}
 use Rattle.law_dirs.proofs.UnlinkTests.{HasName, has_where, has_child}
 use Rattle.law_dirs.proofs.Climb.{climb_clear, climb_meets}
+use Rattle.refusals.specs.Refusals.{answer_no, done}
+use Rattle.refusals.specs.declared.Refusal.TheVariants.{NotDir, IsDir, BadName, EntryExist, EntryNotFound, InvalidParam, TooManyLinks, NoDeviceSpace}
+use Rattle.refusals.specs.declared.Refusal.{Refusal}
+use Rattle.std.specs.Prelude.{Err, Result}
 
 -- p is a directory, and `old` neither "." nor ".."
 pub record Source (img : List ℕ) (p : ℕ) (old : List ℕ) : Type 0 where
@@ -50,21 +53,21 @@ pub record Roomy (img : List ℕ) (t c : ℕ) : Type 0 where
   pub room : needs (count img t) (size img t + 260) ≤ unused img
 
 -- the answer a, by RULES' numbers: in one directory a move takes no block and no link, so that 12, 13 and 14 cannot arise
-pub data MoveTests (img : List ℕ) (p : ℕ) (old : List ℕ) (t : ℕ) (new : List ℕ) (a : Acted) : Type 0 where
-  move_6 : kind img p ≢ 2 → a ≡ NotDir → MoveTests img p old t new a
-  move_7 : kind img p ≡ 2 → is_dots old ≡ true → a ≡ IsDir → MoveTests img p old t new a
-  move_target_6 : Source img p old → kind img t ≢ 2 → a ≡ NotDir → MoveTests img p old t new a
-  move_8 : Source img p old → kind img t ≡ 2 → (Name new → ⊥) → a ≡ BadName → MoveTests img p old t new a
-  move_9 : Source img p old → kind img t ≡ 2 → Name new → (j : ℕ) → j < entries img t → name img t j ≡ new → a ≡ EntryExist → MoveTests img p old t new a
-  move_10 : Source img p old → CanName img t new → ((j : ℕ) → j < entries img p → name img p j ≢ old) → a ≡ EntryNotFound → MoveTests img p old t new a
-  move_12 : (j : ℕ) → CanMove img p old t new j → p ≢ t → kind img (entry img p j) ≡ 2 → (Above img (entry img p j) t → ⊥) → a ≡ InvalidParam
+pub data MoveTests (img : List ℕ) (p : ℕ) (old : List ℕ) (t : ℕ) (new : List ℕ) (a : Result Unit Refusal) : Type 0 where
+  move_6 : kind img p ≢ 2 → a ≡ Err NotDir → MoveTests img p old t new a
+  move_7 : kind img p ≡ 2 → is_dots old ≡ true → a ≡ Err IsDir → MoveTests img p old t new a
+  move_target_6 : Source img p old → kind img t ≢ 2 → a ≡ Err NotDir → MoveTests img p old t new a
+  move_8 : Source img p old → kind img t ≡ 2 → (Name new → ⊥) → a ≡ Err BadName → MoveTests img p old t new a
+  move_9 : Source img p old → kind img t ≡ 2 → Name new → (j : ℕ) → j < entries img t → name img t j ≡ new → a ≡ Err EntryExist → MoveTests img p old t new a
+  move_10 : Source img p old → CanName img t new → ((j : ℕ) → j < entries img p → name img p j ≢ old) → a ≡ Err EntryNotFound → MoveTests img p old t new a
+  move_12 : (j : ℕ) → CanMove img p old t new j → p ≢ t → kind img (entry img p j) ≡ 2 → (Above img (entry img p j) t → ⊥) → a ≡ Err InvalidParam
       → MoveTests img p old t new a
   move_13 : (j : ℕ) → CanMove img p old t new j → p ≢ t → kind img (entry img p j) ≡ 2 → Above img (entry img p j) t → links img t ≡ full_links
-      → a ≡ TooManyLinks → MoveTests img p old t new a
+      → a ≡ Err TooManyLinks → MoveTests img p old t new a
   move_14 : (j : ℕ) → CanMove img p old t new j → p ≢ t → (kind img (entry img p j) ≡ 2 → Above img (entry img p j) t)
-      → (kind img (entry img p j) ≡ 2 → links img t ≢ full_links) → unused img < needs (count img t) (size img t + 260) → a ≡ NoDeviceSpace
+      → (kind img (entry img p j) ≡ 2 → links img t ≢ full_links) → unused img < needs (count img t) (size img t + 260) → a ≡ Err NoDeviceSpace
       → MoveTests img p old t new a
-  move_done : (j : ℕ) → CanMove img p old t new j → (p ≢ t → Roomy img t (entry img p j)) → a ≡ Done → MoveTests img p old t new a
+  move_done : (j : ℕ) → CanMove img p old t new j → (p ≢ t → Roomy img t (entry img p j)) → a ≡ done → MoveTests img p old t new a
 
 -- ---- 12, 13 and 14 in their definition
 
@@ -101,7 +104,7 @@ module _ {img : List ℕ} (w : Whole img) (p : ℕ) (rp : Reached img p) (old : 
     space = dec_lt (unused img) (needs (count img t) (size img t + 260))
 
     by_links : kind img c ≡ 2 → Above img c t → Dec (links img t ≡ full_links)
-        → MoveTests img p old t new (pick (eqb (links img t) full_links) TooManyLinks (entry_room img th))
+        → MoveTests img p old t new (pick (eqb (links img t) full_links) (Err TooManyLinks) (entry_room img th))
     by_links k a (yes e) = move_13 j m d k a e (rw (eq-eqb (links img t) full_links e))
     by_links k a (no e) = rw (ne_eqb (links img t) full_links e) (by_space (λ _. a) (λ _. e) space)
 
@@ -121,14 +124,14 @@ module _ {img : List ℕ} (w : Whole img) (p : ℕ) (rp : Reached img p) (old : 
     by_kind Dir o = by_climb o.number (climbs img c t (blocks img)) refl
     by_kind SymLink o = by_file_lem SymLink (λ e. omega arith) o
 
-  abbrev last : Head → Acted
-  last h = pick (eqb p t) Done (child_answer (blocks img) img c t h)
+  abbrev last : Head → Result Unit Refusal
+  last h = pick (eqb p t) done (child_answer (blocks img) img c t h)
 
   by_place : CanMove img p old t new j → Reached img c → Dec (p ≡ t) → MoveTests img p old t new (last th)
   by_place m r (yes e) = move_done j m (λ d. absurd (d e)) (rw (eq-eqb p t e))
   by_place m r (no d) = let k = kinds img c (whole_inode w c r) in rw (ne_eqb p t d, k.1.decodes) (by_kind m d k.0 k.1)
 
-  abbrev after : Head → Acted
+  abbrev after : Head → Result Unit Refusal
   after h = source_answer (blocks img) img p old t h
 
   by_old : Source img p old → CanName img t new → Dec (j < entries img p) → MoveTests img p old t new (after th)
@@ -147,8 +150,8 @@ module _ {img : List ℕ} (w : Whole img) (p : ℕ) (rp : Reached img p) (old : 
       go (exists d g j b q e) = move_9 s d g j b q e
       go (can n e) = rw e (by_old s n (dec_lt j (entries img p)))
 
-  abbrev rest : Acted
-  rest = pick (is_dots old) IsDir (name_tests img t new after)
+  abbrev rest : Result Unit Refusal
+  rest = pick (is_dots old) (Err IsDir) (name_tests img t new after)
 
   by_dots : kind img p ≡ 2 → (b : Bool) → is_dots old ≡ b → MoveTests img p old t new rest
   by_dots d true e = move_7 d e (rw e)
@@ -165,24 +168,16 @@ module _ {img : List ℕ} (w : Whole img) (p : ℕ) (rp : Reached img p) (old : 
   -- ---- the causes exclude each other
 
   climbs_when : (c : ℕ) → kind img t ≡ 2 → (Above img c t → ⊥) → climbs img c t (blocks img) ≡ true
-  climbs_when c k n = go (climbs img c t (blocks img)) refl
-    where
-      go : (b : Bool) → climbs img c t (blocks img) ≡ b → climbs img c t (blocks img) ≡ true
-      go true e = e
-      go false e = absurd (n (climb_clear w c t rt k e))
+  climbs_when c k n = grind (arith, common_steps, climb_clear)
 
   climbs_not : (c : ℕ) → kind img t ≡ 2 → Above img c t → climbs img c t (blocks img) ≡ false
-  climbs_not c k n = go (climbs img c t (blocks img)) refl
-    where
-      go : (b : Bool) → climbs img c t (blocks img) ≡ b → climbs img c t (blocks img) ≡ false
-      go true e = absurd (climb_meets w c t rt k e n)
-      go false e = e
+  climbs_not c k n = grind (arith, common_steps, climb_meets)
 
-  in_target_lem : {a : Acted} → Source img p old → a ≡ name_tests img t new after → a ≡ move_answer (blocks img) img p old t new
+  in_target_lem : {a : Result Unit Refusal} → Source img p old → a ≡ name_tests img t new after → a ≡ move_answer (blocks img) img p old t new
   unfolding move_answer
   in_target_lem s e = dir_exact (λ h. rest) (whole_inode w p rp) (dir s.dir (rw s.plain e))
 
-  by_tests : {a : Acted} → Source img p old → NameTests img t new a (after th) → a ≡ move_answer (blocks img) img p old t new
+  by_tests : {a : Result Unit Refusal} → Source img p old → NameTests img t new a (after th) → a ≡ move_answer (blocks img) img p old t new
   by_tests s n = in_target_lem s (name_exact new after (whole_inode w t rt) n)
 
   module _ (i : ℕ) (m : CanMove img p old t new i) where
@@ -192,17 +187,17 @@ module _ {img : List ℕ} (w : Whole img) (p : ℕ) (rp : Reached img p) (old : 
     moving_of : (k : FileType) × OfKind img moving k
     moving_of = kinds img moving (whole_inode w moving (has_child w rp m.from))
 
-    in_last : {a : Acted} → a ≡ last th → a ≡ move_answer (blocks img) img p old t new
+    in_last : {a : Result Unit Refusal} → a ≡ last th → a ≡ move_answer (blocks img) img p old t new
     in_last e =
         by_tests (record { dir = m.from.parent; plain = m.from.plain })
         (can m.to (rw (met img p old i m.from.there m.from.named) e))
 
-    in_room : {a : Acted} (k : FileType) → OfKind img moving k → p ≢ t → a ≡ move_room (blocks img) img moving (head_at img moving k) t th
+    in_room : {a : Result Unit Refusal} (k : FileType) → OfKind img moving k → p ≢ t → a ≡ move_room (blocks img) img moving (head_at img moving k) t th
         → a ≡ move_answer (blocks img) img p old t new
     in_room k o d e = in_last (rw (ne_eqb p t d, has_where w rp m.from, o.decodes) e)
 
     -- 12 and 13 do not refuse
-    in_space : {a : Acted} (k : FileType) → OfKind img moving k → p ≢ t → (kind img moving ≡ 2 → Above img moving t)
+    in_space : {a : Result Unit Refusal} (k : FileType) → OfKind img moving k → p ≢ t → (kind img moving ≡ 2 → Above img moving t)
         → (kind img moving ≡ 2 → links img t ≢ full_links) → a ≡ entry_room img th → a ≡ move_answer (blocks img) img p old t new
     in_space File o d u v e = in_room File o d (e ∙ sym (room_other (blocks img) img moving t th File (λ q. omega arith)))
     in_space Dir o d u v e =
@@ -210,14 +205,10 @@ module _ {img : List ℕ} (w : Whole img) (p : ℕ) (rp : Reached img p) (old : 
         (rw (room_dir (blocks img) img moving t th, climbs_not moving m.to.dir (u o.number), ne_eqb (links img t) full_links (v o.number)) e)
     in_space SymLink o d u v e = in_room SymLink o d (e ∙ sym (room_other (blocks img) img moving t th SymLink (λ q. omega arith)))
 
-    in_done : {a : Acted} → (p ≢ t → Roomy img t moving) → a ≡ Done → Dec (p ≡ t) → a ≡ move_answer (blocks img) img p old t new
-    in_done f e (yes q) = in_last (rw (eq-eqb p t q) e)
-    in_done f e (no d) =
-        let o = moving_of in
-        in_space o.0 o.1 d (f d).away (f d).links_left_lem
-        (rw (le-ltb (unused img) (needs (count img t) (size img t + 260)) (f d).room) e)
+    in_done : {a : Result Unit Refusal} → (p ≢ t → Roomy img t moving) → a ≡ done → Dec (p ≡ t) → a ≡ move_answer (blocks img) img p old t new
+    in_done f e t₁ = grind (arith, common_steps, in_last, moving_of, in_space)
 
-  pub move_exact : {a : Acted} → MoveTests img p old t new a → a ≡ move_answer (blocks img) img p old t new
+  pub move_exact : {a : Result Unit Refusal} → MoveTests img p old t new a → a ≡ move_answer (blocks img) img p old t new
   unfolding move_answer
   move_exact (move_6 d e) = dir_exact (λ h. rest) (whole_inode w p rp) (other d e)
   move_exact (move_7 d q e) = dir_exact (λ h. rest) (whole_inode w p rp) (dir d (rw q e))
@@ -236,15 +227,6 @@ module _ {img : List ℕ} (w : Whole img) (p : ℕ) (rp : Reached img p) (old : 
       in_space i m o.0 o.1 d u v (rw (lt-ltb (unused img) (needs (count img t) (size img t + 260)) q) e)
   move_exact (move_done i m f e) = in_done i m f e (ℕ_discrete p t)
 
-pub move_can : {img : List ℕ} {p : ℕ} {old : List ℕ} {t : ℕ} {new : List ℕ} {a : Acted} → MoveTests img p old t new a → acted_no a ≡ 0
-    → (j : ℕ) × CanMove img p old t new j × (p ≢ t → Roomy img t (entry img p j)) × (a ≡ Done)
-move_can (move_6 _ e) z = absurd (omega (arith, ap acted_no e))
-move_can (move_7 _ _ e) z = absurd (omega (arith, ap acted_no e))
-move_can (move_target_6 _ _ e) z = absurd (omega (arith, ap acted_no e))
-move_can (move_8 _ _ _ e) z = absurd (omega (arith, ap acted_no e))
-move_can (move_9 _ _ _ _ _ _ e) z = absurd (omega (arith, ap acted_no e))
-move_can (move_10 _ _ _ e) z = absurd (omega (arith, ap acted_no e))
-move_can (move_12 _ _ _ _ _ e) z = absurd (omega (arith, ap acted_no e))
-move_can (move_13 _ _ _ _ _ _ e) z = absurd (omega (arith, ap acted_no e))
-move_can (move_14 _ _ _ _ _ _ e) z = absurd (omega (arith, ap acted_no e))
-move_can (move_done j m f e) z = (j, m, f, e)
+pub move_can : {img : List ℕ} {p : ℕ} {old : List ℕ} {t : ℕ} {new : List ℕ} {a : Result Unit Refusal} → MoveTests img p old t new a → answer_no a ≡ 0
+    → (j : ℕ) × CanMove img p old t new j × (p ≢ t → Roomy img t (entry img p j)) × (a ≡ done)
+move_can t₁ z = grind (arith, common_steps)

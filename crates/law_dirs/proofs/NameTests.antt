@@ -7,6 +7,7 @@ use Prim.Native.Nat.{ℕ, ◌<◌}
 use native.Mathlib.Omega.{arith}
 use native.Mathlib.Decide.{dec_lt}
 use borrow.Author.Tests.{lt-ltb, le-ltb}
+use Rattle.std.proofs.lemmas.Grind.{common_steps}
 use Rattle.card_layout.specs.Inode.{kind, head_at}
 use Rattle.card_layout.specs.Entry.{Name}
 use Rattle.card_layout.specs.declared.inode.FileType.TheVariants.{Dir}
@@ -18,9 +19,10 @@ use Rattle.dir_entries.specs.Names.{storable}
 use Rattle.dir_entries.proofs.Lookup.{where_range, where_hit, where_none, where_not}
 use Rattle.dir_entries.proofs.Given.{name_storable, storable_name, storable_not}
 use Rattle.dir_answers.specs.Answers.{in_dir, new_name}
-use Rattle.dir_answers.specs.declared.Acted.{Acted}
-use Rattle.dir_answers.specs.declared.Acted.TheVariants.{NotDir, BadName, EntryExist}
 use Rattle.law_dirs.proofs.Tests.{DirTest, other, dir, dir_test, dir_exact, met, unmet}
+use Rattle.refusals.specs.declared.Refusal.TheVariants.{NotDir, BadName, EntryExist}
+use Rattle.refusals.specs.declared.Refusal.{Refusal}
+use Rattle.std.specs.Prelude.{Err, Result}
 
 -- directory p can take an entry of name x
 pub record CanName (img : List ℕ) (p : ℕ) (x : List ℕ) : Type 0 where
@@ -29,20 +31,20 @@ pub record CanName (img : List ℕ) (p : ℕ) (x : List ℕ) : Type 0 where
   pub new : (j : ℕ) → j < entries img p → name img p j ≢ x
 
 -- so a is answered, where `rest` is what the other tests answer
-pub data NameTests (img : List ℕ) (p : ℕ) (x : List ℕ) (a rest : Acted) : Type 0 where
-  not_dir : kind img p ≢ 2 → a ≡ NotDir → NameTests img p x a rest
-  bad_name : kind img p ≡ 2 → (Name x → ⊥) → a ≡ BadName → NameTests img p x a rest
-  exists : kind img p ≡ 2 → Name x → (j : ℕ) → j < entries img p → name img p j ≡ x → a ≡ EntryExist → NameTests img p x a rest
+pub data NameTests {A : Type 0} (img : List ℕ) (p : ℕ) (x : List ℕ) (a rest : Result A Refusal) : Type 0 where
+  not_dir : kind img p ≢ 2 → a ≡ Err NotDir → NameTests img p x a rest
+  bad_name : kind img p ≡ 2 → (Name x → ⊥) → a ≡ Err BadName → NameTests img p x a rest
+  exists : kind img p ≡ 2 → Name x → (j : ℕ) → j < entries img p → name img p j ≡ x → a ≡ Err EntryExist → NameTests img p x a rest
   can : CanName img p x → a ≡ rest → NameTests img p x a rest
 
 -- the form that they have in a definition: f is the rest, of the head of p
-abbrev asked : List ℕ → ℕ → List ℕ → (Head → Acted) → Head → Acted
+abbrev asked : {A : Type 0} → List ℕ → ℕ → List ℕ → (Head → Result A Refusal) → Head → Result A Refusal
 asked img p x f h = new_name img p x (f h)
 
-abbrev pub name_tests : List ℕ → ℕ → List ℕ → (Head → Acted) → Acted
+abbrev pub name_tests : {A : Type 0} → List ℕ → ℕ → List ℕ → (Head → Result A Refusal) → Result A Refusal
 name_tests img p x f = in_dir img p (asked img p x f)
 
-module _ {img : List ℕ} {p : ℕ} (x : List ℕ) (f : Head → Acted) where
+module _ {A : Type 0} {img : List ℕ} {p : ℕ} (x : List ℕ) (f : Head → Result A Refusal) where
   by_name : kind img p ≡ 2 → (t : Bool) → storable x ≡ t → Dec (where_is img p x < entries img p)
       → NameTests img p x (asked img p x f (head_at img p Dir)) (f (head_at img p Dir))
   by_name d false e q = bad_name d (storable_not x e) (rw e)
@@ -60,14 +62,11 @@ module _ {img : List ℕ} {p : ℕ} (x : List ℕ) (f : Head → Acted) where
       go (dir d e) = rw e (by_name d (storable x) refl (dec_lt (where_is img p x) (entries img p)))
 
 not_storable : (x : List ℕ) → (Name x → ⊥) → storable x ≡ false
-not_storable x n = go (storable x) refl
-  where
-    go : (t : Bool) → storable x ≡ t → storable x ≡ false
-    go true e = absurd (n (storable_name x e))
-    go false e = e
+not_storable x n = grind (arith, common_steps, storable_name)
 
 -- their causes exclude each other
-pub name_exact : {img : List ℕ} {p : ℕ} {a : Acted} (x : List ℕ) (f : Head → Acted) → Inode img p → NameTests img p x a (f (head_at img p Dir))
+pub name_exact : {A : Type 0} {img : List ℕ} {p : ℕ} {a : Result A Refusal} (x : List ℕ) (f : Head → Result A Refusal) → Inode img p
+    → NameTests img p x a (f (head_at img p Dir))
     → a ≡ name_tests img p x f
 name_exact {img} {p} x f i (not_dir d e) = dir_exact (asked img p x f) i (other d e)
 name_exact {img} {p} x f i (bad_name k n e) = dir_exact (asked img p x f) i (dir k (rw (not_storable x n) e))

@@ -5,34 +5,18 @@ use mathlib.Core.List.{List, ◌∷◌}
 use mathlib.Core.Logic.{◌≢◌, ⊎_elim}
 use Prim.Native.Nat.{ℕ, ◌+◌, ◌*◌, ◌/◌, ◌≤◌, ◌<◌}
 use native.Mathlib.Omega.{arith}
-use native.Mathlib.Decide.{dec_lt}
 use lib.ListN.{length}
+use Rattle.std.proofs.lemmas.Grind.{common_steps}
 use Rattle.words.specs.Words.{byte, num, Bytes}
 use Rattle.words.specs.Inner.{Apart}
-use Rattle.words.specs.Sums.{δ, sum_to, cnt}
+use Rattle.words.specs.Sums.{δ, cnt}
 use Rattle.words.proofs.Numbers.{num_lt, num_frame}
 use Rattle.words.proofs.Sums.{δ_other, δ_cases, sum_to_zero}
 use Rattle.card_layout.specs.Super.{blocks, unused, maps}
 use Rattle.card_layout.specs.Inode.{size, kind, links, count, kind_no, encoded, new_inode, with_links, Fitting}
 use Rattle.card_layout.specs.declared.inode.FileType.{FileType}
-use Rattle.card_layout.specs.declared.inode.FileType.TheVariants.{File, Dir, SymLink}
 use Rattle.card_layout.specs.declared.inode.DiskINode.{DiskINode}
-use Rattle.card_layout.proofs.InodeLaws.{
-  inode_at,
-  new_inode_fits,
-  length-encoded,
-  size-encoded,
-  kind-encoded,
-  links-encoded,
-  count-encoded,
-  indirect-encoded,
-  double-encoded,
-  padding-encoded,
-  device-encoded,
-  directs-encoded,
-  byte-encoded_off,
-  bytes_encoded,
-}
+use Rattle.card_layout.proofs.InodeLaws.{inode_at, length-encoded, size-encoded, kind-encoded, links-encoded, count-encoded, indirect-encoded, double-encoded, padding-encoded, device-encoded, directs-encoded, byte-encoded_off, bytes_encoded}
 use Rattle.card_map.specs.Bits.{map_byte, map_bit, free_bits}
 use Rattle.card_map.specs.Free.{lowest, taken_at, taken}
 use Rattle.card_map.proofs.Map.{bit_is, bit_below, free_is}
@@ -51,7 +35,7 @@ use Rattle.card_map.proofs.Laws.{
   unused-taken_at,
   free_taken_at,
 }
-use Rattle.card_rules.specs.View.{data_at, owns}
+use Rattle.card_rules.specs.View.{owns}
 use Rattle.card_rules.specs.Whole.{Inode, Sound}
 use Rattle.card_rules.proofs.Views.{owns_few}
 use Rattle.card_rules.proofs.Owners.{map_below, free_no_inode, free_not_zero, free_not_map}
@@ -65,13 +49,7 @@ use Rattle.file_grow.proofs.Taken.{nth_free}
 
 -- an inode with no blocks owns its own
 pub owns_none : (img : List ℕ) (n b : ℕ) → count img n ≡ 0 → owns img n b ≡ δ n b
-owns_none img n b e =
-    omega (
-      arith,
-      owns_few img n b (omega arith),
-      ap (sum_to (λ x. δ (data_at img n x) b)) e,
-      sum_to_zero (λ x. δ (data_at img n x) b),
-    )
+owns_none img n b e = grind (arith, common_steps, owns_few, sum_to_zero)
 
 -- what the first step leaves of a card: inode i has the record d, and no listed inode changed
 pub record Fresh (l img out : List ℕ) (i : ℕ) (t : FileType) (v : ℕ) : Type 0 where
@@ -92,9 +70,7 @@ pub record Fresh (l img out : List ℕ) (i : ℕ) (t : FileType) (v : ℕ) : Typ
   pub record_is : inode_at out i t ≡ with_links (new_inode t) v
 
 kind_known : (t : FileType) → (1 ≤ kind_no t) × (kind_no t ≤ 3)
-kind_known File = (omega arith, omega arith)
-kind_known Dir = (omega arith, omega arith)
-kind_known SymLink = (omega arith, omega arith)
+kind_known t₁ = grind (arith, common_steps)
 
 module _ (img l : List ℕ) (s : Sound img l) (bytes : Bytes img) (i : ℕ) (low : i < blocks img) (free : map_bit img i ≡ 1) (t : FileType) (v : ℕ)
     (small : v < 65536) where
@@ -108,19 +84,7 @@ module _ (img l : List ℕ) (s : Sound img l) (bytes : Bytes img) (i : ℕ) (low
   out = encoded mid i new_record
 
   fits : Fitting new_record
-  fits =
-      let n = new_inode_fits t in
-      record {
-        size = omega arith;
-        nlinks = omega arith;
-        blocks = omega arith;
-        indirect = omega arith;
-        double = omega arith;
-        padding = omega arith;
-        device = omega arith;
-        twelve = n.twelve;
-        slots = n.slots;
-      }
+  fits = grind (arith, common_steps)
 
   -- where it is: after block 0, and in no block of the map
   not_zero : i ≢ 0
@@ -154,10 +118,7 @@ module _ (img l : List ℕ) (s : Sound img l) (bytes : Bytes img) (i : ℕ) (low
 
   -- a word of the superblock but the unused count
   super_far : (at : ℕ) → at + 4 ≤ 48 → Apart at 4 8 4 → num 4 out at ≡ num 4 img at
-  super_far at h a =
-      num_frame 4 out img at
-      (λ k p q.
-      byte_far k (λ x y. not_zero (omega arith)) (λ x y. a (omega arith) (omega arith)) (λ e. omega arith))
+  super_far at h a = grind (arith, common_steps, num_frame, byte_far, not_zero)
 
   unused_same : num 4 out 8 ≡ unused mid
   unused_same =
@@ -237,7 +198,11 @@ module _ (img l : List ℕ) (s : Sound img l) (bytes : Bytes img) (i : ℕ) (low
       record {
         kind_low = rw kind_new (kind_known t).0;
         kind_high = rw kind_new (kind_known t).1;
-        shape = record { counted = rw (count_new, size_new) (omega arith); single = record { from = λ a. absurd (omega (arith, count_new)); to = λ a. indirect-encoded mid i new_record room fits }; twofold = record { from = λ a. absurd (omega (arith, count_new)); to = λ a. double-encoded mid i new_record room fits } };
+        shape = record {
+          counted = rw (count_new, size_new) (omega arith);
+          single = record { from = λ a. absurd (omega (arith, count_new)); to = λ a. indirect-encoded mid i new_record room fits };
+          twofold = record { from = λ a. absurd (omega (arith, count_new)); to = λ a. double-encoded mid i new_record room fits };
+        };
       }
 
   added : Added img out i
@@ -254,11 +219,7 @@ module _ (img l : List ℕ) (s : Sound img l) (bytes : Bytes img) (i : ℕ) (low
       }
 
   unlisted : cnt i l ≡ 0
-  unlisted = go (dec_lt 0 (cnt i l))
-    where
-      go : Dec (0 < cnt i l) → cnt i l ≡ 0
-      go (yes h) = absurd (free_no_inode img l s i low free h)
-      go (no h) = omega arith
+  unlisted = grind (arith, common_steps, free_no_inode)
 
   pub new_at : Fresh l img out i t v
   new_at =
@@ -314,7 +275,11 @@ module _ {l img out : List ℕ} {i v : ℕ} {t : FileType} (f : Fresh l img out 
     where
       here : ((i ≡ k → ⊥) × (δ i k ≡ 0)) → i ≡ k
       here w =
-          omega (arith, first, lowest_least img 0 (blocks img) k (omega arith) (omega (arith, f.below)) (omega (arith, bit_new k (omega (arith, f.below)), w.1)))
+          omega (
+            arith,
+            first,
+            lowest_least img 0 (blocks img) k (omega arith) (omega (arith, f.below)) (omega (arith, bit_new k (omega (arith, f.below)), w.1)),
+          )
 
   pub second_lowest : nth_free (blocks out) out 0 ≡ nth_free (blocks img) img 1
   unfolding nth_free

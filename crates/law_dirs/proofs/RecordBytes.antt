@@ -4,9 +4,9 @@ use mathlib.Core.Path.{◌≡◌, refl, ap, ◌∙◌}
 use mathlib.Core.List.{List}
 use Prim.Native.Nat.{ℕ, ◌+◌, ◌*◌, ◌≤◌, ◌<◌, ◌^◌}
 use native.Mathlib.Omega.{arith}
-use lib.Dec.{ltb}
 use lib.ListN.{length}
-use Rattle.words.specs.Words.{pick, put_word, Bytes}
+use Rattle.std.proofs.lemmas.Grind.{common_steps}
+use Rattle.words.specs.Words.{put_word, Bytes}
 use Rattle.words.proofs.Numbers.{length-put, num_out, num_same, num_lt}
 use Rattle.card_layout.specs.Sizes.{blocks_for}
 use Rattle.card_layout.specs.Inode.{count, padding, device, with_size, put_words, put_front, put_back, encoded}
@@ -17,9 +17,8 @@ use Rattle.card_layout.proofs.Words.{length-put_words}
 use Rattle.card_layout.proofs.InodeLaws.{inode_at, length_front}
 use Rattle.card_rules.specs.Same.{SameRecord}
 use Rattle.card_rules.proofs.Frames.{padding_is, device_is}
-use Rattle.file_blocks.specs.Taking.{Growing, into_indirect, into_double, grow_indirect, grow_double, grow_level, grow_direct, grow_single, grown}
-use Rattle.file_blocks.specs.Taking.{shrunk, less_indirect, less_double}
-use Rattle.file_blocks.proofs.Picks.{pick-both}
+use Rattle.file_blocks.specs.Taking.{Growing, grow_indirect, grow_double}
+use Rattle.file_blocks.specs.Taking.{grown, shrunk, less_indirect, less_double}
 use Rattle.file_blocks.proofs.Growth.{inode_grow_level, inode_grow_single, inode_grow_twofold, head_grow_direct}
 use Rattle.file_requests.specs.Resizing.{of_length, growth, lengthened, file_blocks, shorter}
 use Rattle.law_files.proofs.Losses.{less_both}
@@ -50,37 +49,20 @@ module _ (x : List ℕ) (n : ℕ) (d : DiskINode) (v : ℕ) (room : 4096 * n + 8
   abbrev pointers : List ℕ
   pointers = put_word (put_word front (4096 * n + 60) d.head.indirect.0) (4096 * n + 64) d.head.db_indirect.0
 
-  abbrev padded : List ℕ
-  padded = put_word pointers (4096 * n + 68) d.head.padding
-
   long : length pointers ≡ length x
-  long =
-      length-put 4 (put_word front (4096 * n + 60) d.head.indirect.0) (4096 * n + 64) d.head.db_indirect.0
-      ∙ length-put 4 front (4096 * n + 60) d.head.indirect.0
-      ∙ length-put_words _ _ d.direct
-      ∙ length_front x (4096 * n) d.head
+  long = grind (arith, common_steps, length-put, length-put_words, length_front)
 
   padding_put : d.head.padding < 2 ^ 32 → padding (relinked (encoded x n d) n v) n ≡ d.head.padding
   unfolding encoded put_back
-  padding_put h =
-      num_out 4 2 _ (4096 * n + 68) (4096 * n + 6) v (λ p q. omega arith)
-      ∙ num_out 4 8 padded (4096 * n + 68) (4096 * n + 72) _ (λ p q. omega arith)
-      ∙ num_same 4 pointers (4096 * n + 68) d.head.padding (omega (arith, long)) h
+  padding_put h = grind (arith, common_steps, num_out, num_same, long)
 
   device_put : d.head.device_inode_id < 2 ^ 64 → device (relinked (encoded x n d) n v) n ≡ d.head.device_inode_id
   unfolding encoded put_back
-  device_put h =
-      num_out 8 2 _ (4096 * n + 72) (4096 * n + 6) v (λ p q. omega arith)
-      ∙ num_same 8 padded (4096 * n + 72) d.head.device_inode_id
-      (omega (arith, length-put 4 pointers (4096 * n + 68) d.head.padding, long)) h
+  device_put h = grind (arith, common_steps, num_out, num_same, length-put, long)
 
   pub tail_encoded : {img : List ℕ} → Bytes img → d.head.padding ≡ padding img n → d.head.device_inode_id ≡ device img n
       → SameTail img (relinked (encoded x n d) n v) n
-  tail_encoded {img} bytes p q =
-      record {
-        padding_same = padding_put (omega (arith, p, num_lt 4 img (4096 * n + 68) bytes)) ∙ p;
-        device_same = device_put (omega (arith, q, num_lt 8 img (4096 * n + 72) bytes)) ∙ q;
-      }
+  tail_encoded {img} bytes p q = grind (arith, common_steps, padding_put, num_lt, device_put)
 
 -- ---- growth keeps them
 
@@ -90,33 +72,15 @@ Ended h k = (k.padding ≡ h.padding) × (k.device_inode_id ≡ h.device_inode_i
 module _ (nb a b : ℕ) (g : Growing) where
   ended_indirect : Ended g.inode.head (grow_indirect nb a b g).inode.head
   unfolding grow_indirect
-  ended_indirect =
-      pick-both (λ x. Ended g.inode.head x.inode.head) (ltb a 12) (pick (ltb b 12) g (into_indirect nb g)) g
-      (pick-both (λ x. Ended g.inode.head x.inode.head) (ltb b 12) g (into_indirect nb g) (refl, refl) (refl, refl)) (refl, refl)
+  ended_indirect = grind (arith, common_steps)
 
   ended_double : Ended g.inode.head (grow_double nb a b g).inode.head
   unfolding grow_double
-  ended_double =
-      pick-both (λ x. Ended g.inode.head x.inode.head) (ltb a 1036) (pick (ltb b 1036) g (into_double nb g)) g
-      (pick-both (λ x. Ended g.inode.head x.inode.head) (ltb b 1036) g (into_double nb g) (refl, refl) (refl, refl)) (refl, refl)
+  ended_double = grind (arith, common_steps)
 
 pub ended_grown : (nb a b : ℕ) (g : Growing) → Ended g.inode.head (grown nb a b g).inode.head
 unfolding grown
-ended_grown nb a b g =
-    let g₁ = grow_indirect nb a b g in
-    let g₂ = grow_double nb a b g₁ in
-    let g₃ = grow_level nb a b g₂ in
-    let g₄ = grow_direct nb a b g₃ in
-    let g₅ = grow_single nb a b g₄ in
-    let h : (grown nb a b g).inode.head ≡ g₂.inode.head =
-    ap (λ (d : DiskINode). d.head) (inode_grow_twofold nb a b g₅ ∙ inode_grow_single nb a b g₄)
-    ∙ head_grow_direct nb a b g₃
-    ∙ ap (λ (d : DiskINode). d.head) (inode_grow_level nb a b g₂) in
-    let x = ended_indirect nb a b g in
-    let y = ended_double nb a b g₁ in (
-      ap (λ (k : Head). k.padding) h ∙ y.0 ∙ x.0,
-      ap (λ (k : Head). k.device_inode_id) h ∙ y.1 ∙ x.1,
-    )
+ended_grown nb a b g = grind (arith, common_steps, inode_grow_twofold, inode_grow_single, head_grow_direct, inode_grow_level, ended_indirect, ended_double)
 
 -- ---- a length change, with other links
 

@@ -5,10 +5,10 @@ use mathlib.Core.List.{List}
 use mathlib.Core.Logic.{◌≢◌}
 use Prim.Native.Nat.{ℕ, ◌+◌, ◌-◌, ◌*◌, ◌%◌, ◌≤◌, ◌<◌}
 use native.Mathlib.Omega.{arith}
+use Rattle.std.proofs.lemmas.Grind.{common_steps}
 use Rattle.words.specs.Words.{Bytes}
 use Rattle.words.specs.Sums.{cnt}
 use Rattle.words.proofs.Numbers.{num_lt}
-use Rattle.card_layout.specs.Sizes.{blocks_for}
 use Rattle.card_layout.specs.Super.{blocks}
 use Rattle.card_layout.specs.Inode.{size, kind, links, count, kind_no, with_links}
 use Rattle.card_layout.specs.declared.inode.FileType.{FileType}
@@ -53,9 +53,7 @@ inode_at_same s k = rw (size_is s, links_is s, count_is s, indirect_is s, double
 
 -- a shorter length needs no block
 pub needs-none : {img l : List ℕ} → Sound img l → (n : ℕ) → 0 < cnt n l → (len : ℕ) → len ≤ size img n → needs (count img n) len ≡ 0
-needs-none {img} s n h len q =
-    let b : blocks_for len ≤ count img n = omega (arith, (s.inode n h).shape.counted) in
-    omega (arith, owned_mono (blocks_for len) (count img n) b)
+needs-none {img} s n h len q = grind (arith, common_steps, owned_mono)
 
 -- entry j is e, which the last one was, then the directory is 260 shorter
 removed_by : {img mid out l e : List ℕ} {n v j : ℕ} → Sound img l → 0 < cnt n l → size img n % 260 ≡ 0 → j < entries img n → EntryPut l img mid n j e

@@ -6,9 +6,8 @@ use mathlib.Core.List.{List}
 use Prim.Native.Nat.{ℕ, ◌+◌, ◌-◌, ◌*◌, ◌≤◌, ◌<◌}
 use native.Mathlib.Omega.{arith}
 use native.Mathlib.Decide.{dec_lt, ℕ_discrete}
-use borrow.Author.Tests.{eq-eqb, ne_eqb}
-use lib.Dec.{eqb}
-use Rattle.words.specs.Words.{pick, Bytes}
+use Rattle.std.proofs.lemmas.Grind.{common_steps}
+use Rattle.words.specs.Words.{Bytes}
 use Rattle.words.specs.Sums.{δ, cnt, without}
 use Rattle.words.proofs.Numbers.{num_lt}
 use Rattle.words.proofs.Sums.{δ_same, δ_other, sum_on-without}
@@ -32,9 +31,8 @@ use Rattle.card_rules.proofs.Kept.{Steady}
 use Rattle.card_rules.proofs.Isolation.{others_same}
 use Rattle.dir_entries.specs.Entries.{where_is, removed}
 use Rattle.dir_entries.proofs.Lookup.{where_hit}
-use Rattle.dir_answers.specs.Answers.{acted_no, named_by}
+use Rattle.dir_answers.specs.Answers.{named_by}
 use Rattle.dir_unlink.specs.Unlink.{links_left, parent_less, dropped, unlinked, unlink_answer, unlinked_at, unlink_card}
-use Rattle.dir_answers.specs.declared.Acted.TheVariants.{Done}
 use Rattle.dir_answers.proofs.Dirs.{dir_is}
 use Rattle.law_files.proofs.Requests.{of_kind}
 use Rattle.law_tree.proofs.Counts.{subs_none}
@@ -50,6 +48,8 @@ use Rattle.law_dirs.proofs.Tests.{dir_not}
 use Rattle.law_dirs.proofs.UnlinkTests.{Target, target}
 use Rattle.law_dirs.proofs.UnlinkSteps.{Cut, beside, less_held, less_unused, less_use, parent_entries, parent_links, parent_shrinks}
 use Rattle.law_dirs.proofs.UnlinkSteps.{own_byte, own_count, own_held, own_kind, own_links, own_record, own_size}
+use Rattle.refusals.specs.Refusals.{answer_no}
+use Rattle.std.specs.Prelude.{Ok}
 
 -- ---- what is promised
 
@@ -371,20 +371,16 @@ module _ {img : List ℕ} (w : Whole img) (bytes : Bytes img) (p : ℕ) (r : Rea
 
   -- ---- the card that unlink leaves
 
-  card_is : unlink_answer img p x ≡ Done → unlink_card (blocks img) img p x ≡ unlinked (blocks img) p (inode_at img p Dir) j c (inode_at img c k) img
+  card_is : unlink_answer img p x ≡ Ok tt → unlink_card (blocks img) img p x ≡ unlinked (blocks img) p (inode_at img p Dir) j c (inode_at img c k) img
   unfolding unlink_card unlinked_at
   card_is e = rw ((of_kind img p Dir t.parent).decodes, t.of.decodes, e)
 
   card_done : UnlinkDone l img (unlinked (blocks img) p (inode_at img p Dir) j c (inode_at img c k) img) p x
   unfolding unlinked
-  card_done = go (ℕ_discrete u 0)
-    where
-      go : Dec (u ≡ 0) → UnlinkDone l img (pick (eqb u 0) last less) p x
-      go (yes z) = rw (eq-eqb u 0 z) (dead_done z)
-      go (no n) = rw (ne_eqb u 0 n) (still_done n)
+  card_done = grind (arith, common_steps, dead_done, still_done)
 
-module _ {img : List ℕ} (w : Whole img) (bytes : Bytes img) (p : ℕ) (r : Reached img p) (x : List ℕ) (done : unlink_answer img p x ≡ Done) where
+module _ {img : List ℕ} (w : Whole img) (bytes : Bytes img) (p : ℕ) (r : Reached img p) (x : List ℕ) (done : unlink_answer img p x ≡ Ok tt) where
   pub unlink_done : UnlinkDone w.inodes img (unlink_card (blocks img) img p x) p x
   unlink_done =
-      let t = target w p r x (ap acted_no done) in
+      let t = target w p r x (ap answer_no done) in
       rw (card_is w bytes p r x t.0 t.1 done) (card_done w bytes p r x t.0 t.1)

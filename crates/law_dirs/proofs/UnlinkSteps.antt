@@ -4,6 +4,7 @@ use mathlib.Core.Logic.{◌≢◌}
 use mathlib.Core.List.{List}
 use Prim.Native.Nat.{ℕ, ◌+◌, ◌*◌, ◌≤◌, ◌<◌}
 use native.Mathlib.Omega.{arith}
+use Rattle.std.proofs.lemmas.Grind.{common_steps}
 use Rattle.words.specs.Sums.{cnt}
 use Rattle.card_layout.specs.Super.{unused}
 use Rattle.card_layout.specs.Inode.{size, kind, links, count}
@@ -58,14 +59,7 @@ module _ {img mid less out l : List ℕ} {p c v u j : ℕ} (z : Cut l img mid le
   parent_links = links_is (then p z.p_in z.apart).slots.rec ∙ z.removes.links_is
 
   pub parent_shrinks : count out p ≤ count img p
-  parent_shrinks =
-      omega (
-        arith,
-        count_is (then p z.p_in z.apart).slots.rec,
-        (mid_sound.inode p z.p_in).shape.counted,
-        (z.sound.inode p z.p_in).shape.counted,
-        z.removes.size_is,
-      )
+  parent_shrinks = grind (arith, common_steps, count_is)
 
   pub own_size : size out c ≡ size img c
   own_size = size_is (same c z.c_in).slots.rec ∙ z.relinks.size_is ∙ size_is own.slots.rec

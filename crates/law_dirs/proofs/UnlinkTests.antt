@@ -5,9 +5,10 @@ use mathlib.Core.Bool.{Bool, true, false}
 use mathlib.Core.List.{List}
 use Prim.Native.Nat.{ℕ, ◌+◌, ◌-◌, ◌≤◌, ◌<◌}
 use native.Mathlib.Omega.{arith}
-use native.Mathlib.Decide.{dec_lt, ℕ_discrete}
+use native.Mathlib.Decide.{dec_lt}
 use borrow.Author.Tests.{lt-ltb, le-ltb}
 use lib.Dec.{ltb}
+use Rattle.std.proofs.lemmas.Grind.{common_steps}
 use Rattle.words.specs.Words.{pick}
 use Rattle.card_layout.specs.Inode.{kind, kind_no, head_at}
 use Rattle.card_layout.specs.declared.inode.FileType.{FileType}
@@ -16,16 +17,17 @@ use Rattle.card_rules.specs.View.{entries, entry, name}
 use Rattle.card_rules.specs.Whole.{Reached, down, Whole}
 use Rattle.card_rules.proofs.Views.{kids_of_dir}
 use Rattle.dir_entries.specs.Entries.{where_is}
-use Rattle.dir_entries.specs.Names.{dot, dots, is_dots}
+use Rattle.dir_entries.specs.Names.{is_dots}
 use Rattle.dir_entries.proofs.Lookup.{where_range, where_hit, where_not, where_only}
 use Rattle.dir_entries.proofs.Given.{dots_apart}
-use Rattle.dir_answers.specs.Answers.{acted_no, in_dir, named_by}
-use Rattle.dir_unlink.specs.Unlink.{not_empty, child_answer, unlink_answer, unlink_card}
-use Rattle.dir_answers.specs.declared.Acted.{Acted}
-use Rattle.dir_answers.specs.declared.Acted.TheVariants.{Done, NotDir, IsDir, EntryNotFound, DirNotEmpty}
+use Rattle.dir_answers.specs.Answers.{in_dir, named_by}
+use Rattle.dir_unlink.specs.Unlink.{not_empty, child_answer, unlink_answer}
 use Rattle.law_files.proofs.Requests.{OfKind, of_kind, kinds}
-use Rattle.dir_unlink.proofs.UnlinkLaws.{unlink_refused as by-tag}
 use Rattle.law_dirs.proofs.Tests.{whole_inode, DirTest, other, dir, dir_test, dir_exact, met, unmet}
+use Rattle.refusals.specs.Refusals.{answer_no, done}
+use Rattle.refusals.specs.declared.Refusal.TheVariants.{NotDir, IsDir, EntryNotFound, DirNotEmpty}
+use Rattle.refusals.specs.declared.Refusal.{Refusal}
+use Rattle.std.specs.Prelude.{Err, Result}
 
 -- ---- a name to be unlinked or moved
 
@@ -42,15 +44,7 @@ module _ {img : List ℕ} (w : Whole img) {p : ℕ} (r : Reached img p) {x : Lis
 
   -- it is of a child
   pub has_past : 2 ≤ j
-  has_past = go (ℕ_discrete j 0) (ℕ_discrete j 1)
-    where
-      a : (x ≡ dot → ⊥) × (x ≡ dots → ⊥)
-      a = dots_apart x h.plain
-
-      go : Dec (j ≡ 0) → Dec (j ≡ 1) → 2 ≤ j
-      go (yes z) y = absurd (a.0 (sym h.named ∙ ap (name img p) z ∙ (w.tree.dir p r h.parent).first.dot))
-      go (no z) (yes y) = absurd (a.1 (sym h.named ∙ ap (name img p) y ∙ (w.tree.dir p r h.parent).first.dots))
-      go (no z) (no y) = omega arith
+  has_past = grind (arith, common_steps, dots_apart)
 
   pub has_child : Reached img (entry img p j)
   has_child =
@@ -60,19 +54,19 @@ module _ {img : List ℕ} (w : Whole img) {p : ℕ} (r : Reached img p) {x : Lis
 -- ---- the tests
 
 -- the answer a, by RULES' numbers
-pub data UnlinkTests (img : List ℕ) (p : ℕ) (x : List ℕ) (a : Acted) : Type 0 where
-  unlink_6 : kind img p ≢ 2 → a ≡ NotDir → UnlinkTests img p x a
-  unlink_7 : kind img p ≡ 2 → is_dots x ≡ true → a ≡ IsDir → UnlinkTests img p x a
-  unlink_10 : kind img p ≡ 2 → is_dots x ≡ false → ((j : ℕ) → j < entries img p → name img p j ≢ x) → a ≡ EntryNotFound → UnlinkTests img p x a
-  unlink_11 : (j : ℕ) → HasName img p x j → kind img (entry img p j) ≡ 2 → 2 < entries img (entry img p j) → a ≡ DirNotEmpty → UnlinkTests img p x a
-  unlink_done : (j : ℕ) → HasName img p x j → (kind img (entry img p j) ≡ 2 → entries img (entry img p j) ≤ 2) → a ≡ Done → UnlinkTests img p x a
+pub data UnlinkTests (img : List ℕ) (p : ℕ) (x : List ℕ) (a : Result Unit Refusal) : Type 0 where
+  unlink_6 : kind img p ≢ 2 → a ≡ Err NotDir → UnlinkTests img p x a
+  unlink_7 : kind img p ≡ 2 → is_dots x ≡ true → a ≡ Err IsDir → UnlinkTests img p x a
+  unlink_10 : kind img p ≡ 2 → is_dots x ≡ false → ((j : ℕ) → j < entries img p → name img p j ≢ x) → a ≡ Err EntryNotFound → UnlinkTests img p x a
+  unlink_11 : (j : ℕ) → HasName img p x j → kind img (entry img p j) ≡ 2 → 2 < entries img (entry img p j) → a ≡ Err DirNotEmpty → UnlinkTests img p x a
+  unlink_done : (j : ℕ) → HasName img p x j → (kind img (entry img p j) ≡ 2 → entries img (entry img p j) ≤ 2) → a ≡ done → UnlinkTests img p x a
 
 module _ {img : List ℕ} (w : Whole img) (p : ℕ) (r : Reached img p) (x : List ℕ) where
-  abbrev last : Acted
+  abbrev last : Result Unit Refusal
   last = child_answer img (named_by img p x)
 
-  abbrev rest : Acted
-  rest = pick (is_dots x) IsDir (pick (ltb (where_is img p x) (entries img p)) last EntryNotFound)
+  abbrev rest : Result Unit Refusal
+  rest = pick (is_dots x) (Err IsDir) (pick (ltb (where_is img p x) (entries img p)) last (Err EntryNotFound))
 
   by_kind : HasName img p x (where_is img p x) → (k : FileType) → OfKind img (named_by img p x) k → Dec (2 < entries img (named_by img p x))
       → UnlinkTests img p x last
@@ -101,17 +95,17 @@ module _ {img : List ℕ} (w : Whole img) (p : ℕ) (r : Reached img p) (x : Lis
 
   -- what 11 is asked of
   by_entry : (j : ℕ) (h : HasName img p x j) (k : FileType) → OfKind img (entry img p j) k
-      → rest ≡ pick (not_empty (head_at img (entry img p j) k)) DirNotEmpty Done
+      → rest ≡ pick (not_empty (head_at img (entry img p j) k)) (Err DirNotEmpty) done
   by_entry j h k o = rw (h.plain, met img p x j h.there h.named, has_where w r h, o.decodes)
 
   by_bare : (j : ℕ) → HasName img p x j → (k : FileType) → OfKind img (entry img p j) k
-      → (kind img (entry img p j) ≡ 2 → entries img (entry img p j) ≤ 2) → rest ≡ Done
+      → (kind img (entry img p j) ≡ 2 → entries img (entry img p j) ≤ 2) → rest ≡ done
   by_bare j h File o b = by_entry j h File o
   by_bare j h Dir o b = by_entry j h Dir o ∙ rw (le-ltb 2 (entries img (entry img p j)) (b o.number))
   by_bare j h SymLink o b = by_entry j h SymLink o
 
   -- the causes exclude each other
-  pub unlink_exact : {a : Acted} → UnlinkTests img p x a → a ≡ unlink_answer img p x
+  pub unlink_exact : {a : Result Unit Refusal} → UnlinkTests img p x a → a ≡ unlink_answer img p x
   unfolding unlink_answer
   unlink_exact (unlink_6 d e) = dir_exact (λ h. rest) (whole_inode w p r) (other d e)
   unlink_exact (unlink_7 d q e) = dir_exact (λ h. rest) (whole_inode w p r) (dir d (rw q e))
@@ -135,37 +129,10 @@ pub record Target (img : List ℕ) (p : ℕ) (x : List ℕ) (k : FileType) : Typ
   pub bare : kind_no k ≡ 2 → entries img (named_by img p x) ≤ 2
   pub apart : p ≢ named_by img p x
 
-pub unlink_can : {img : List ℕ} {p : ℕ} {x : List ℕ} {a : Acted} → UnlinkTests img p x a → acted_no a ≡ 0
-    → (j : ℕ) × HasName img p x j × (kind img (entry img p j) ≡ 2 → entries img (entry img p j) ≤ 2) × (a ≡ Done)
-unlink_can (unlink_6 _ e) z = absurd (omega (arith, ap acted_no e))
-unlink_can (unlink_7 _ _ e) z = absurd (omega (arith, ap acted_no e))
-unlink_can (unlink_10 _ _ _ e) z = absurd (omega (arith, ap acted_no e))
-unlink_can (unlink_11 _ _ _ _ e) z = absurd (omega (arith, ap acted_no e))
-unlink_can (unlink_done j h b e) z = (j, h, b, e)
-
 module _ {img : List ℕ} (w : Whole img) (p : ℕ) (r : Reached img p) (x : List ℕ) where
   bare_target : (k : FileType) → OfKind img (named_by img p x) k → HasName img p x (where_is img p x)
       → (kind img (named_by img p x) ≡ 2 → entries img (named_by img p x) ≤ 2) → Target img p x k
-  bare_target k o h b =
-      record {
-        parent = h.parent;
-        past = has_past w r h;
-        there = h.there;
-        reached = has_child w r h;
-        of = o;
-        bare = λ e. b (o.number ∙ e);
-        apart = λ q. omega (arith, h.there, has_past w r h, b (ap (kind img) (sym q) ∙ h.parent), ap (entries img) q);
-      }
+  bare_target k o h b = grind (arith, common_steps, has_past, has_child)
 
-  pub target : acted_no (unlink_answer img p x) ≡ 0 → (k : FileType) × Target img p x k
-  target z =
-      let u = unlink_can (unlink_tests_lem w p r x) z in
-      let e = has_where w r u.1 in
-      let h : HasName img p x (where_is img p x) = rw e u.1 in
-      let k = kinds img (named_by img p x) (whole_inode w (named_by img p x) (has_child w r h)) in
-      (k.0, bare_target k.0 k.1 h (rw e u.2))
-
--- ---- a refusal changes nothing
-
-pub unlink_refused : (nb : ℕ) (img : List ℕ) (p : ℕ) (x : List ℕ) → acted_no (unlink_answer img p x) ≢ 0 → unlink_card nb img p x ≡ img
-unlink_refused nb img p x d = by-tag img p x nb d
+  pub target : answer_no (unlink_answer img p x) ≡ 0 → (k : FileType) × Target img p x k
+  target z = grind (arith, common_steps, unlink_tests_lem, has_where, kinds, has_child, bare_target)

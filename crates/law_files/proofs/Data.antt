@@ -6,6 +6,7 @@ use Prim.Native.Nat.{ℕ, suc, ◌+◌, ◌-◌, ◌*◌, ◌/◌, ◌%◌, ◌�
 use native.Mathlib.Omega.{arith}
 use native.Mathlib.Decide.{dec_lt}
 use lib.ListN.{length}
+use Rattle.std.proofs.lemmas.Grind.{common_steps}
 use Rattle.words.specs.Runs.{turns}
 use Rattle.words.proofs.Runs.{turns_keep}
 use Rattle.card_layout.specs.Inode.{number_at}
@@ -218,13 +219,7 @@ module _ {nb K a b : ℕ} {img : List ℕ} {H : Place → ℕ} (s : Seats nb K a
         go (no h) = ap (λ (x : Growing). x.cur) (grow_twofold_out nb a b g (omega arith))
 
     twofold_listed : Listed nb K a b img H b (grow_twofold nb a b g).cur
-    twofold_listed = go (dec_lt b 1036)
-      where
-        go : Dec (b < 1036) → Listed nb K a b img H b (grow_twofold nb a b g).cur
-        go (yes l) =
-            let m : max a (min b 1036) ≡ b = omega (arith, s.up) in
-            subst (λ (x : ℕ). Listed nb K a b img H x (grow_twofold nb a b g).cur) m (rw (twofold_none l) f)
-        go (no l) = twofold_some (omega arith)
+    twofold_listed = grind (arith, common_steps, twofold_none, twofold_some)
 
   -- ---- the three together
 

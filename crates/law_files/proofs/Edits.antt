@@ -5,6 +5,7 @@ use mathlib.Core.List.{List}
 use Prim.Native.Nat.{ℕ, ◌<◌}
 use native.Mathlib.Omega.{arith}
 use lib.ListN.{length}
+use Rattle.std.proofs.lemmas.Grind.{common_steps}
 use Rattle.words.specs.Words.{Bytes}
 use Rattle.words.specs.Sums.{cnt}
 use Rattle.card_layout.specs.Inode.{kind}
@@ -15,24 +16,10 @@ use Rattle.card_rules.proofs.Kept.{Steady, bit_of_lem, slots_few, steady_same}
 use Rattle.card_rules.proofs.Isolation.{Within, Balanced, WithinData, within_trans, sound_one, data_within, data_slots, data_super, data_map, data_listed}
 
 pub steady_trans : {img mid out : List ℕ} → Steady img mid → Steady mid out → Steady img out
-steady_trans x y =
-    record {
-      length_same = y.length_same ∙ x.length_same;
-      magic_same = y.magic_same ∙ x.magic_same;
-      blocks_same = y.blocks_same ∙ x.blocks_same;
-      maps_same = y.maps_same ∙ x.maps_same;
-      past = λ b a q. y.past b (rw x.blocks_same a) (rw x.maps_same q) ∙ x.past b a q;
-      free = rw x.blocks_same at y.free;
-    }
+steady_trans x y = grind (arith, common_steps)
 
 pub balanced_trans : {img mid out : List ℕ} {n : ℕ} → Balanced img mid n → Balanced mid out n → Balanced img out n
-balanced_trans x y =
-    record {
-      steady = steady_trans x.steady y.steady;
-      balance = λ b q. y.balance b (rw x.steady.blocks_same q) ∙ x.balance b q;
-      below = λ b a. y.below b (rw x.steady.blocks_same a);
-      inode = y.inode;
-    }
+balanced_trans x y = grind (arith, common_steps)
 
 -- an edit of inode n that keeps its kind
 pub record Edited (img out : List ℕ) (n : ℕ) : Type 0 where

@@ -7,6 +7,7 @@ use Prim.Native.Nat.{ℕ, ◌+◌, ◌-◌, ◌≤◌, ◌<◌, min}
 use native.Mathlib.Omega.{arith}
 use native.Mathlib.Decide.{dec_lt, dec_le}
 use lib.ListN.{length}
+use Rattle.std.proofs.lemmas.Grind.{common_steps}
 use Rattle.words.specs.Words.{Bytes}
 use Rattle.words.specs.Sums.{δ, sum_to, cnt}
 use Rattle.words.proofs.Sums.{sum_on_point}
@@ -27,7 +28,7 @@ use Rattle.card_rules.proofs.Counting.{set_and_owned}
 use Rattle.card_rules.proofs.Cells.{held-owned, owned-held}
 use Rattle.card_rules.proofs.Owners.{held_below, places_differ}
 use Rattle.file_blocks.specs.Bytes.{filled}
-use Rattle.file_requests.specs.Requests.{filed_no, end_of, resize_answer, resize_card, write_answer, write_card, read_buffer}
+use Rattle.file_requests.specs.Requests.{end_of, resize_answer, resize_card, write_answer, write_card, read_buffer}
 use Rattle.law_files.specs.Effects.{ReadEffect, ChangeEffect, Lowest, ResizeEffect, WriteEffect}
 use Rattle.law_files.proofs.Requests.{of_kind, resize_dir, resize_done}
 use Rattle.law_files.proofs.Only.{Only, only_resized}
@@ -37,10 +38,12 @@ use Rattle.law_files.proofs.TailShown.{resize_shows}
 use Rattle.law_files.proofs.Lowest.{resize_lowest}
 use Rattle.law_files.proofs.Writing.{Wrote, refused, reached, wrote, size_wrote, count_wrote, there, elsewhere, stood_wrote, lowest_wrote, only_wrote}
 use Rattle.law_files.proofs.Files.{of_file, refused_exactly, read_bytes, read_past, read_length}
+use Rattle.refusals.specs.Refusals.{answer_no}
 
 -- ---- one file has changed: what it has less or more is what the map has more or less
 
-module _ {img out : List ℕ} (w : Whole img) (n : ℕ) (h : Reached img n) (sound : Sound out w.inodes) (same : blocks out ≡ blocks img) (maps_same : maps out ≡ maps img)
+module _ {img out : List ℕ} (w : Whole img) (n : ℕ) (h : Reached img n) (sound : Sound out w.inodes) (same : blocks out ≡ blocks img)
+    (maps_same : maps out ≡ maps img)
     (others : (m : ℕ) → 0 < cnt m w.inodes → m ≢ n → SameFile img out m) where
   abbrev l : List ℕ
   l = w.inodes
@@ -114,22 +117,16 @@ changed {img} {out} w n h x low =
 
 module _ {img : List ℕ} (w : Whole img) (b : Bytes img) (n : ℕ) (h : Reached img n) (d : kind img n ≢ 2) (off : ℕ) (buf : List ℕ) where
   pub read_effect : ReadEffect img n off buf (read_buffer (blocks img) img n off buf) (min (size img n) (off + length buf) - min (size img n) off)
-  read_effect =
-      record {
-        count_is = refl;
-        bytes = read_bytes w b n h d off buf;
-        past = read_past w b n h d off buf;
-        length_is = read_length w b n h d off buf;
-      }
+  read_effect = grind (arith, common_steps, read_bytes, read_past, read_length)
 
 -- ---- resize
 
-module _ {img : List ℕ} (w : Whole img) (b : Bytes img) (n : ℕ) (h : Reached img n) (len : ℕ) (done : filed_no (resize_answer img n len) ≡ 0) where
+module _ {img : List ℕ} (w : Whole img) (b : Bytes img) (n : ℕ) (h : Reached img n) (len : ℕ) (done : answer_no (resize_answer img n len) ≡ 0) where
   listed_in : 0 < cnt n w.inodes
   listed_in = omega (arith, w.tree.all n h)
 
   pub resize_not_dir : kind img n ≢ 2
-  resize_not_dir e = omega (arith, sym done ∙ ap filed_no (resize_dir (of_kind img n Dir e) len))
+  resize_not_dir e = omega (arith, sym done ∙ ap answer_no (resize_dir (of_kind img n Dir e) len))
 
   pub resize_effect : ResizeEffect img (resize_card (blocks img) img n len) n len
   resize_effect =
@@ -152,7 +149,7 @@ module _ {img : List ℕ} (w : Whole img) (b : Bytes img) (n : ℕ) (h : Reached
 -- ---- write
 
 module _ {img : List ℕ} (w : Whole img) (b : Bytes img) (n : ℕ) (h : Reached img n) (off : ℕ) (src : List ℕ) (c : Bytes src)
-    (done : filed_no (write_answer img n off src) ≡ 0) where
+    (done : answer_no (write_answer img n off src) ≡ 0) where
   abbrev out : List ℕ
   out = write_card (blocks img) img n off src
 

@@ -8,6 +8,7 @@ use native.Mathlib.Omega.{arith}
 use native.Mathlib.Decide.{dec_lt}
 use lib.ListN.{length}
 use lib.Seq.{ext_get_or}
+use Rattle.std.proofs.lemmas.Grind.{common_steps}
 use Rattle.words.specs.Words.{byte, Bytes}
 use Rattle.words.specs.Sums.{sum_to, cnt}
 use Rattle.words.proofs.Sums.{sum_to_add, sum_to_cong}
@@ -28,13 +29,15 @@ use Rattle.file_blocks.proofs.Walk.{Readable}
 use Rattle.file_read.proofs.ReadBytes.{read_here, read_rest}
 use Rattle.file_fill.proofs.Sound.{sound_readable}
 use Rattle.card_rules.proofs.Isolation.{Balanced}
-use Rattle.file_requests.specs.Requests.{longest, needs, filed_no, judged, resize_answer, write_answer, write_card, read_answer, read_buffer}
-use Rattle.file_requests.specs.declared.Filed.TheVariants.{Count}
+use Rattle.file_requests.proofs.Answers.{judged-long, judged-full, judged-fits}
+use Rattle.file_requests.specs.Requests.{longest, needs, judged, resize_answer, write_answer, write_card, read_answer, read_buffer}
 use Rattle.law_files.specs.Requests.{Request, writing, named, OfBytes}
 use Rattle.law_files.specs.Inner.{after}
-use Rattle.law_files.proofs.Requests.{OfKind, kinds, Filelike, filelike, judged-long, judged-full, judged_fine, resize_file, read_file, read_buffer_lem}
+use Rattle.law_files.proofs.Requests.{OfKind, kinds, Filelike, filelike, resize_file, read_file, read_buffer_lem}
 use Rattle.law_files.proofs.Steps.{Step}
 use Rattle.law_files.proofs.Writing.{Wrote, refused, reached, wrote, there, size_wrote, step_write, step}
+use Rattle.refusals.specs.Refusals.{answer_no}
+use Rattle.std.specs.Prelude.{Ok}
 
 -- ---- whole, and isolated
 
@@ -61,19 +64,19 @@ module _ {img : List ℕ} (w : Whole img) (n : ℕ) (h : Reached img n) (d : kin
   answer_is : (len : ℕ) → resize_answer img n len ≡ judged (unused img) (head_at img n of_file.0) len
   answer_is = resize_file of_file.1 of_file.2
 
-  pub refused_exactly : (len : ℕ) → (filed_no (resize_answer img n len) ≡ 0 → (len ≤ longest) × (owned (blocks_for len) ≤ owned (count img n) + unused img))
-      × (len ≤ longest → owned (blocks_for len) ≤ owned (count img n) + unused img → filed_no (resize_answer img n len) ≡ 0)
+  pub refused_exactly : (len : ℕ) → (answer_no (resize_answer img n len) ≡ 0 → (len ≤ longest) × (owned (blocks_for len) ≤ owned (count img n) + unused img))
+      × (len ≤ longest → owned (blocks_for len) ≤ owned (count img n) + unused img → answer_no (resize_answer img n len) ≡ 0)
   refused_exactly len = (
     λ e. fine e (dec_lt longest len) (dec_lt (unused img) (needs (count img n) len)),
-    λ a r. rw (answer_is len, judged_fine (unused img) (head_at img n of_file.0) len a (omega arith)),
+    λ a r. rw (answer_is len, judged-fits (unused img) (head_at img n of_file.0) len a (omega arith)),
   )
     where
-      fine : filed_no (resize_answer img n len) ≡ 0 → Dec (longest < len) → Dec (unused img < needs (count img n) len)
+      fine : answer_no (resize_answer img n len) ≡ 0 → Dec (longest < len) → Dec (unused img < needs (count img n) len)
           → (len ≤ longest) × (owned (blocks_for len) ≤ owned (count img n) + unused img)
       fine e (yes a) q =
           absurd (omega (arith, (rw (answer_is len, judged-long (unused img) (head_at img n of_file.0) len a) at e)))
       fine e (no a) (yes q) =
-          absurd (omega (arith, (rw (answer_is len, judged-full (unused img) (head_at img n of_file.0) len (omega arith) q) at e)))
+          absurd (omega (arith, (rw (answer_is len, judged-full (unused img) (head_at img n of_file.0) len (omega arith) (omega arith)) at e)))
       fine e (no a) (no q) = (omega arith, omega arith)
 
 -- ---- "N(new) - N(old) in all"
@@ -107,7 +110,7 @@ module _ {img : List ℕ} (w : Whole img) (bytes : Bytes img) (n : ℕ) (h : Rea
   abbrev hi : ℕ
   hi = min (size img n) (off + length buf)
 
-  pub read_answer_lem : read_answer img n off (length buf) ≡ Count (hi - lo)
+  pub read_answer_lem : read_answer img n off (length buf) ≡ Ok (hi - lo)
   read_answer_lem = let x = of_file w n h d in read_file x.1 x.2 off (length buf)
 
   buffer_is : read_buffer (blocks img) img n off buf ≡ read_into img (blocks img) n lo hi buf
@@ -120,10 +123,7 @@ module _ {img : List ℕ} (w : Whole img) (bytes : Bytes img) (n : ℕ) (h : Rea
   inside = omega (arith, inode_room (w.sound.inode n listed))
 
   pub read_bytes : (k : ℕ) → k < hi - lo → byte (read_buffer (blocks img) img n off buf) k ≡ file_byte img n (off + k)
-  read_bytes k l =
-      let e : lo + k ≡ off + k = omega arith in
-      rw buffer_is
-      (read_here img (blocks img) n lo hi buf readable (omega arith) inside (omega arith) k l ∙ ap (file_byte img n) e)
+  read_bytes k l = grind (arith, common_steps, buffer_is, read_here, readable)
 
   pub read_past : (k : ℕ) → hi - lo ≤ k → byte (read_buffer (blocks img) img n off buf) k ≡ byte buf k
   read_past k l = rw buffer_is (read_rest img (blocks img) n lo hi buf readable (omega arith) inside (omega arith) k l)
@@ -134,7 +134,7 @@ module _ {img : List ℕ} (w : Whole img) (bytes : Bytes img) (n : ℕ) (h : Rea
 -- ---- what was written is read
 
 module _ {img : List ℕ} (w : Whole img) (b : Bytes img) (n : ℕ) (h : Reached img n) (off : ℕ) (src : List ℕ) (c : Bytes src)
-    (done : filed_no (write_answer img n off src) ≡ 0) where
+    (done : answer_no (write_answer img n off src) ≡ 0) where
   given : 0 < cnt n w.inodes
   given = omega (arith, w.tree.all n h)
 
@@ -155,10 +155,10 @@ module _ {img : List ℕ} (w : Whole img) (b : Bytes img) (n : ℕ) (h : Reached
       go (refused d e) = absurd (d done)
       go (reached mid x o z g _ _ _ y e) = rw e (size_wrote b n given off src o z)
 
-  pub write_count : write_answer img n off src ≡ Count (length src)
+  pub write_count : write_answer img n off src ≡ Ok (length src)
   write_count = go (wrote w.sound w.tree b n given off src)
     where
-      go : Wrote w.inodes img n off src → write_answer img n off src ≡ Count (length src)
+      go : Wrote w.inodes img n off src → write_answer img n off src ≡ Ok (length src)
       go (refused d e) = absurd (d done)
       go (reached mid x o z g _ _ _ y e) = y
 
@@ -171,11 +171,13 @@ module _ {img : List ℕ} (w : Whole img) (b : Bytes img) (n : ℕ) (h : Reached
 
   -- a read of as many bytes from there gives them all
   pub read_back : (buf : List ℕ) → length buf ≡ length src
-      → (read_answer out n off (length buf) ≡ Count (length src)) × (read_buffer (blocks out) out n off buf ≡ src)
+      → (read_answer out n off (length buf) ≡ Ok (length src)) × (read_buffer (blocks out) out n off buf ≡ src)
   read_back buf e = (
-    read_answer_lem v bytes n r k off buf ∙ ap Count (let q : min (size out n) (off + length buf) - min (size out n) off ≡ length src = omega (arith, write_size) in q),
+    read_answer_lem v bytes n r k off buf
+        ∙ ap Ok (let q : min (size out n) (off + length buf) - min (size out n) off ≡ length src = omega (arith, write_size) in q),
     ext_get_or 0 (read_buffer (blocks out) out n off buf) src (read_length v bytes n r k off buf ∙ e)
-        (λ i l. read_bytes v bytes n r k off buf i (omega (arith, write_size, read_length v bytes n r k off buf)) ∙ write_there i (omega (arith, read_length v bytes n r k off buf))),
+        (λ i l. read_bytes v bytes n r k off buf i (omega (arith, write_size, read_length v bytes n r k off buf))
+        ∙ write_there i (omega (arith, read_length v bytes n r k off buf))),
   )
     where
       x : Step w.inodes img out (writing n off src)

@@ -5,8 +5,8 @@ use mathlib.Core.List.{List}
 use Prim.Native.Nat.{ℕ, ◌+◌, ◌-◌, ◌*◌, ◌≤◌, ◌<◌}
 use native.Mathlib.Omega.{arith}
 use native.Mathlib.Decide.{dec_lt}
-use borrow.Author.Tests.{lt-ltb, le-ltb}
 use lib.Dec.{T, eqb, ltb, eqb→eq}
+use Rattle.std.proofs.lemmas.Grind.{common_steps}
 use Rattle.words.specs.Words.{pick, byte, Bytes}
 use Rattle.words.proofs.Sums.{sum_to_none, sum_to_each, sum_to_more}
 use Rattle.card_map.specs.Bits.{map_bit, free_bits}
@@ -26,13 +26,7 @@ module _ {img : List ℕ} {m nb : ℕ} (f : FreeFrom img m nb) where
   -- ---- the next blocks
 
   below : (j : ℕ) → m + j < nb → free_bits img (m + j) ≡ j
-  below j h =
-      omega (
-        arith,
-        sum_to_more (map_bit img) m j,
-        sum_to_none (map_bit img) m (λ b l. f.used b l (omega arith)),
-        sum_to_each (λ i. map_bit img (m + i)) j (λ i l. f.free (m + i) (omega arith) (omega arith)),
-      )
+  below j h = grind (arith, common_steps, sum_to_more, sum_to_none, sum_to_each)
 
   pub nth_from : (j : ℕ) → m + j < nb → nth_free nb img j ≡ m + j
   nth_from j h = ap (nth_free nb img) (sym (below j h)) ∙ nth_of nb img (m + j) h (f.free (m + j) (omega arith) h)
@@ -44,11 +38,7 @@ module _ {img : List ℕ} {m nb : ℕ} (f : FreeFrom img m nb) where
   -- ---- bytes of the map
 
   bit-from : (b : ℕ) → b < nb → map_bit img b ≡ pick (ltb b m) 0 1
-  bit-from b h = go (dec_lt b m)
-    where
-      go : Dec (b < m) → map_bit img b ≡ pick (ltb b m) 0 1
-      go (yes l) = f.used b l h ∙ rw (lt-ltb b m l)
-      go (no l) = f.free b (omega arith) h ∙ rw (le-ltb b m (omega arith))
+  bit-from b h = grind (arith, common_steps)
 
   -- byte i of the map is v, whose bits are tested
   pub byte_from : Bytes img → (i v : ℕ) → 8 * i + 8 ≤ nb → v < 256 → T (each_below (λ k. eqb (pick (ltb (8 * i + k) m) 0 1) (bit_of v k)) 8)

@@ -7,8 +7,8 @@ use Prim.Native.Nat.{ℕ, zero, suc, ◌+◌, ◌-◌, ◌*◌, ◌≤◌, ◌<�
 use native.Mathlib.Nat.{add-zero}
 use native.Mathlib.Numerals.{add-one}
 use native.Mathlib.Omega.{arith}
-use native.Mathlib.Decide.{ℕ_discrete}
 use lib.ListN.{length}
+use Rattle.std.proofs.lemmas.Grind.{common_steps}
 use Rattle.words.specs.Words.{pick, byte, num, word, Bytes}
 use Rattle.words.specs.Sums.{δ, sum_to}
 use Rattle.words.proofs.Numbers.{num_frame}
@@ -64,22 +64,11 @@ module _ (nb : ℕ) (img : List ℕ) where
 
   -- the same count, said otherwise
   pub freed_is : (gone more : ℕ → ℕ) (cur : List ℕ) → ((x : ℕ) → more x ≡ gone x) → Freed nb img gone cur → Freed nb img more cur
-  freed_is gone more cur e f =
-      record {
-        len = f.len;
-        bytes = f.bytes;
-        bits = λ x q. omega (arith, f.bits x q, e x);
-        past = f.past;
-        free = f.free;
-        kept = f.kept;
-      }
+  freed_is gone more cur e f = grind (arith, common_steps)
 
   -- a number that is apart from map and unused count
   pub num_kept : (gone : ℕ → ℕ) (cur : List ℕ) (w at : ℕ) → Freed nb img gone cur → Clear at w → num w cur at ≡ num w img at
-  num_kept gone cur w at f c =
-      num_frame w cur img at
-      (λ p x y.
-      f.kept p (record { count = λ u v. c.count (omega arith) (omega arith); map = λ u v. c.map (omega arith) (omega arith) }))
+  num_kept gone cur w at f c = grind (arith, common_steps, num_frame)
 
   module _ (sizes : Sizes img nb) where
     module _ (gone : ℕ → ℕ) (cur : List ℕ) (f : Freed nb img gone cur) (v : ℕ) (l : v < nb) (once : map_bit img v + (gone v + δ v v) ≤ 1) where
@@ -97,21 +86,7 @@ module _ (nb : ℕ) (img : List ℕ) where
 
       -- one block more
       pub freed_one : Freed nb img (λ x. gone x + δ v x) (freed cur v)
-      freed_one =
-          record {
-            len = length-freed cur v ∙ f.len;
-            bytes = bytes_freed cur v f.bytes;
-            bits = λ x q. go x q (ℕ_discrete x v);
-            past = λ x q. bit_freed_other cur v inside x (λ e. omega arith) ∙ f.past x q;
-            free = free_more;
-            kept = λ p c. byte-freed_off cur v p c.count (λ e. c.map (omega (arith, sizes.many)) (omega (arith, sizes.many))) ∙ f.kept p c;
-          }
-        where
-          go : (x : ℕ) → x < nb → Dec (x ≡ v) → map_bit (freed cur v) x ≡ map_bit img x + (gone x + δ v x)
-          go x q (yes e) =
-              subst (λ (y : ℕ). map_bit (freed cur v) y ≡ map_bit img y + (gone y + δ v y)) (sym e)
-              (omega (arith, bit_freed_same cur v inside, was, f.bits v l, δ_same v v refl))
-          go x q (no d) = omega (arith, bit_freed_other cur v inside x d, f.bits x q, δ_other v x (λ e. d (sym e)))
+      freed_one = grind (arith, common_steps, length-freed, bytes_freed, bit_freed_other, free_more, byte-freed_off, bit_freed_same, δ_same, δ_other)
 
       pub freed_in_one : Freed nb img (λ x. gone x + δ v x) (freed_in nb v cur)
       freed_in_one = rw (freed_in_in nb v cur l) freed_one

@@ -6,6 +6,7 @@ use native.Mathlib.Nat.{zero-add, add-zero, add-suc}
 use native.Mathlib.Omega.{arith}
 use native.Mathlib.Decide.{dec_lt}
 use lib.Dec.{ltb}
+use Rattle.std.proofs.lemmas.Grind.{common_steps}
 use Rattle.words.specs.Words.{word, Bytes}
 use Rattle.words.specs.Sums.{cnt}
 use Rattle.words.specs.Runs.{turns}
@@ -30,26 +31,7 @@ use Rattle.file_shrink.proofs.Freeing.{twofold_free, free_single_in, free_twofol
 use Rattle.file_grow.proofs.Runs.{Clear}
 use Rattle.law_files.proofs.Tables.{block_clear, clear_in}
 use Rattle.law_files.proofs.Freed.{Freed, Listed, Once, span, span_sum, span-most, span_join, freed_none, freed_is, num_kept, freed_run, freed_gap}
-use Rattle.law_files.proofs.Losses.{
-  up_to,
-  parts_some,
-  up_to-first,
-  up_to_last,
-  up_to-low,
-  up_to_high,
-  part_some,
-  up_to_here,
-  up_to_next,
-  is_data,
-  lost_direct,
-  lost_single,
-  lost_twofold,
-  lost_indirect,
-  lost_level,
-  lost_double,
-  lost,
-  owns_lost,
-}
+use Rattle.law_files.proofs.Losses.{up_to, parts_some, up_to_last, up_to-low, part_some, up_to_here, up_to_next, is_data, lost_direct, lost_single, lost_twofold, lost_indirect, lost_level, lost_double, lost, owns_lost}
 
 module _ (img l : List ℕ) (s : Sound img l) (n : ℕ) (h : 0 < cnt n l) where
   pub sound_sizes : Sizes img (blocks img)
@@ -192,15 +174,10 @@ module _ (img l : List ℕ) (s : Sound img l) (n : ℕ) (h : 0 < cnt n l) where
         (up_to_here a b less q from low) (up_to_next a b less q from low) (part_some a b less q from low)
 
     partly_most : (x q : ℕ) → partly x q ≤ lost_twofold img n x b
-    partly_most x q =
-        let a = count img n in
-        span-most (is_data img n x) (max b 1036) (up_to a b q) (max a 1036) (up_to-low a b less q) (up_to_high a b less q)
+    partly_most x q = grind (arith, common_steps, span-most)
 
     partly_first : (x q : ℕ) → q ≡ parts_from b → partly x q ≡ 0
-    partly_first x q e =
-        let g : ℕ → ℕ = is_data img n x in
-        ap (span g (max b 1036)) (ap (up_to (count img n) b) e ∙ up_to-first (count img n) b less)
-        ∙ omega (arith, span_sum g (max b 1036) (max b 1036) (omega arith))
+    partly_first x q e = grind (arith, common_steps, span_sum)
 
     partly_last : (x q : ℕ) → q ≡ parts_to (count img n) → partly x q ≡ lost_twofold img n x b
     partly_last x q e =

@@ -1,14 +1,17 @@
 -- A growth leaves a card of bytes one of bytes. Assumes nothing.
 use Prim.Native.Nat.{ℕ, ◌+◌, ◌-◌, ◌*◌, min}
+use native.Mathlib.Omega.{arith}
 use lib.Dec.{ltb}
+use Rattle.std.proofs.lemmas.Grind.{common_steps}
 use Rattle.words.specs.Words.{pick, word, Bytes}
 use Rattle.words.proofs.Numbers.{bytes_put}
 use Rattle.words.proofs.Runs.{turns_keep}
 use Rattle.card_map.proofs.Laws.{bytes_taken}
-use Rattle.file_blocks.specs.Taking.{Cursor, Growing, next_of, took_next, into_word, into_direct, into_indirect, into_double, moved, grow_run, grow_indirect, grow_double, grow_level, grow_direct, grow_single, grow_part, grow_twofold, grown}
-use Rattle.file_blocks.specs.Ranges.{part_from, part_to, parts_from, parts_to}
+use Rattle.file_blocks.specs.Taking.{Cursor, Growing, next_of, took_next, into_word, into_direct, into_indirect, into_double, moved}
+use Rattle.file_blocks.specs.Taking.{grow_run, grow_indirect, grow_double, grow_level, grow_direct, grow_single, grow_part, grow_twofold, grown}
+use Rattle.file_blocks.specs.Ranges.{parts_from, parts_to}
 use Rattle.file_blocks.proofs.Picks.{pick-both}
-use Rattle.file_blocks.proofs.Growth.{level_run, single_run, part_run, twofold_turn, twofold_run}
+use Rattle.file_blocks.proofs.Growth.{level_run, single_run, twofold_turn, twofold_run}
 
 module _ (nb : ℕ) where
   bytes_into_word : (at : ℕ) (c : Cursor) → Bytes c.img → Bytes (into_word nb at c).img
@@ -21,10 +24,7 @@ module _ (nb : ℕ) where
 
   bytes_grow_part : (s a b q : ℕ) (c : Cursor) → Bytes c.img → Bytes (grow_part nb s a b q c).img
   unfolding grow_part
-  bytes_grow_part s a b q c h =
-      pick-both (λ x. Bytes x.img) (ltb s nb) (part_run nb s a b q c) c
-      (bytes_grow_run (4096 * s + 4 * (part_from a q - (1036 + 1024 * q))) (part_to b q - part_from a q) c h)
-      h
+  bytes_grow_part s a b q c h = grind (arith, common_steps, bytes_grow_run)
 
 module _ (nb a b : ℕ) (g : Growing) (h : Bytes g.cur.img) where
   Good : Growing → Type 0
@@ -70,7 +70,4 @@ module _ (nb a b : ℕ) (g : Growing) (h : Bytes g.cur.img) where
 
 pub bytes_grown : (nb a b : ℕ) (g : Growing) → Bytes g.cur.img → Bytes (grown nb a b g).cur.img
 unfolding grown
-bytes_grown nb a b g h =
-    bytes_grow_twofold nb a b _
-    (bytes_grow_single nb a b _
-    (bytes_grow_direct nb a b _ (bytes_grow_level nb a b _ (bytes_grow_double nb a b _ (bytes_grow_indirect nb a b g h)))))
+bytes_grown nb a b g h = grind (arith, common_steps, bytes_grow_twofold, bytes_grow_single, bytes_grow_direct, bytes_grow_level, bytes_grow_double, bytes_grow_indirect)

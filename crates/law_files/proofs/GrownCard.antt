@@ -5,13 +5,14 @@ use mathlib.Core.Logic.{◌≢◌}
 use mathlib.Core.List.{List}
 use Prim.Native.Nat.{ℕ, ◌+◌, ◌-◌, ◌*◌, ◌≤◌, ◌<◌}
 use native.Mathlib.Omega.{arith}
-use native.Mathlib.Decide.{dec_lt, ℕ_discrete}
+use native.Mathlib.Decide.{ℕ_discrete}
 use lib.Dec.{ltb}
+use Rattle.std.proofs.lemmas.Grind.{common_steps}
 use Rattle.words.specs.Words.{pick, num}
 use Rattle.words.specs.Inner.{Apart}
 use Rattle.words.specs.Sums.{δ, sum_to, cnt}
 use Rattle.words.proofs.Numbers.{num_frame}
-use Rattle.words.proofs.Sums.{δ_same, δ_other, δ_pos, sum_to_zero, sum_to_suc, sum_to_term, sum_to_pos, sum_to_cong, sum_to_add, sum_to_more, sum_to-δ}
+use Rattle.words.proofs.Sums.{δ_same, δ_other, δ_pos, sum_to_zero, sum_to_suc, sum_to_pos, sum_to_cong, sum_to_add, sum_to_more, sum_to-δ}
 use Rattle.card_layout.specs.Sizes.{maps_for, blocks_for}
 use Rattle.card_layout.specs.Super.{blocks, unused, maps}
 use Rattle.card_layout.specs.Inode.{count, indirect, double}
@@ -20,19 +21,18 @@ use Rattle.card_map.specs.Bits.{map_bit, free_bits}
 use Rattle.card_rules.specs.View.{second, data_at, owns}
 use Rattle.card_rules.specs.Places.{Place, at_indirect, at_double, at_second, at_data, held, InUse}
 use Rattle.card_rules.specs.Whole.{Sized, Sound, Inode}
-use Rattle.card_rules.proofs.Views.{none_below, some_from, seconds_mono, owns_parts}
+use Rattle.card_rules.proofs.Views.{seconds_mono, owns_parts}
 use Rattle.card_rules.proofs.Cells.{rank, held-owned, owned-held}
 use Rattle.card_rules.proofs.Owners.{held_below, not_zero, not_map}
 use Rattle.card_rules.proofs.Counting.{sum_to_numbers}
 use Rattle.card_rules.specs.Same.{SameBlock}
 use Rattle.card_rules.proofs.Kept.{Steady}
 use Rattle.card_rules.proofs.Isolation.{Within}
-use Rattle.file_blocks.proofs.Picks.{gap_past, gap_short, gap_over}
 use Rattle.file_grow.proofs.Taken.{nth_free, nth_free_lem, nth_below}
 use Rattle.file_grow.proofs.Runs.{Clear}
 use Rattle.law_files.proofs.Change.{Changed}
 use Rattle.law_files.proofs.Plan.{Had, in_use_had, new_one, new_two, turn_of, planned, more, Planning, Grown}
-use Rattle.law_files.proofs.PlanLaws.{used_dec, nth_same, turns_all, planning}
+use Rattle.law_files.proofs.PlanLaws.{nth_same, turns_all, planning}
 
 -- ---- sums
 
@@ -53,30 +53,7 @@ grown_sum f f' g c d l old new =
 -- the same of what there is one of, from m on
 grown_one : (m a b v w : ℕ) (g : ℕ → ℕ) → a ≤ b → (m ≤ a → w ≡ v) → (a < m → m ≤ b → w ≡ g 0)
     → pick (ltb b m) 0 w ≡ pick (ltb a m) 0 v + sum_to g (pick (ltb a m) (pick (ltb b m) 0 1) 0)
-grown_one m a b v w g l old new = go (dec_lt a m) (dec_lt b m)
-  where
-    go : Dec (a < m) → Dec (b < m) → pick (ltb b m) 0 w ≡ pick (ltb a m) 0 v + sum_to g (pick (ltb a m) (pick (ltb b m) 0 1) 0)
-    go (yes h) (yes k) =
-        omega (arith, ap (sum_to g) (gap_short {A = ℕ} m a b 0 1 k), sum_to_zero g, none_below a m v h, none_below b m w k)
-    go (yes h) (no k) =
-        omega (
-          arith,
-          ap (sum_to g) (gap_over {A = ℕ} m a b 0 1 h (omega arith)),
-          sum_to_suc g 0,
-          sum_to_zero g,
-          none_below a m v h,
-          some_from b m w (omega arith),
-          new h (omega arith),
-        )
-    go (no h) k =
-        omega (
-          arith,
-          ap (sum_to g) (gap_past {A = ℕ} m a b 0 1 (omega arith)),
-          sum_to_zero g,
-          some_from a m v (omega arith),
-          some_from b m w (omega arith),
-          old (omega arith),
-        )
+grown_one m a b v w g l old new = grind (arith, common_steps, sum_to_zero, sum_to_suc)
 
 sum_to_four : (f : ℕ → ℕ) (i j k m : ℕ)
     → sum_to f (i + j + k + m) ≡ sum_to f i + sum_to (λ x. f (i + x)) j + sum_to (λ x. f (i + j + x)) k + sum_to (λ x. f (i + j + k + x)) m
@@ -99,11 +76,7 @@ takes_one img m x j h l e =
         ∙ sym (δ_other j i q)
 
 clear_positive : (x : ℕ) → Clear (4096 * x) 4096 → 0 < x
-clear_positive x c = go (dec_lt 0 x)
-  where
-    go : Dec (0 < x) → 0 < x
-    go (yes h) = h
-    go (no h) = absurd (c.count (omega arith) (omega arith))
+clear_positive x c = grind (arith, common_steps)
 
 -- a card has one block of map
 mapped_once : (img : List ℕ) → Sized img → maps img ≤ 1
@@ -134,11 +107,7 @@ module _ {img mid l : List ℕ} {n len : ℕ} (s : Sound img l) (h : 0 < cnt n l
 
   -- what is neither n's nor free is not in the plan
   not_planned : (x : ℕ) → owns img n x ≡ 0 → map_bit img x ≡ 0 → (p : Place) → Had (blocks_for len) p → x ≢ planned img n (blocks_for len) p
-  not_planned x o f p a e = go (used_dec img n p)
-    where
-      go : Dec (InUse img n p) → ⊥
-      go (yes u) = omega (arith, o, subst (λ (y : ℕ). 0 < owns img n y) (sym (e ∙ plan.old p u)) (held-owned img n p u))
-      go (no d) = omega (arith, f, plan.free p a d, ap (map_bit img) e)
+  not_planned x o f p a e = grind (arith, common_steps, plan, held-owned)
 
   within : Within img mid n
   within = record { other = λ x q o f z y. g.kept x q z y (λ p a r. not_planned x o f p a) }
@@ -182,39 +151,10 @@ module _ {img mid l : List ℕ} {n len : ℕ} (s : Sound img l) (h : 0 < cnt n l
       )
 
   bits_less : (x : ℕ) → x < blocks img → map_bit img x ≡ map_bit mid x + takes img (more img n (blocks_for len)) x
-  bits_less x q = go (dec_lt 0 (takes img (more img n (blocks_for len)) x))
-    where
-      go : Dec (0 < takes img (more img n (blocks_for len)) x) → map_bit img x ≡ map_bit mid x + takes img (more img n (blocks_for len)) x
-      go (yes k) =
-          let w = sum_to_pos (λ j. δ (nth_free (blocks img) img j) x) (more img n (blocks_for len)) k in
-          let e = δ_pos (nth_free (blocks img) img w.0) x w.2 in
-          omega (
-            arith,
-            takes_one img (more img n (blocks_for len)) x w.0 enough w.1 e,
-            subst (λ (y : ℕ). map_bit mid y ≡ 0) e (g.gone w.0 w.1),
-            subst (λ (y : ℕ). map_bit img y ≡ 1) e (nth_free_lem (blocks img) img w.0 (omega arith)),
-          )
-      go (no k) =
-          omega (
-            arith,
-            g.others x (omega (arith, s.sized.many))
-                (λ j b e.
-                omega (
-                  arith,
-                  δ_same (nth_free (blocks img) img j) x (sym e),
-                  sum_to_term (λ i. δ (nth_free (blocks img) img i) x) (more img n (blocks_for len)) j b,
-                )),
-          )
+  bits_less x q = grind (arith, common_steps, sum_to_pos, δ_pos, takes_one, nth_free_lem)
 
   below : (x : ℕ) → blocks img ≤ x → owns mid n x ≡ 0
-  below x q = go (dec_lt 0 (owns mid n x))
-    where
-      go : Dec (0 < owns mid n x) → owns mid n x ≡ 0
-      go (yes o) =
-          let w = owned-held mid n x o in
-          let p = had_now w.0 w.1 in
-          absurd (omega (arith, sym w.2 ∙ g.placed w.0 p, plan.below w.0 p))
-      go (no o) = omega arith
+  below x q = grind (arith, common_steps, owned-held, plan)
 
   -- ---- superblock, map and record
 
@@ -247,7 +187,11 @@ module _ {img mid l : List ℕ} {n len : ℕ} (s : Sound img l) (h : 0 < cnt n l
       record {
         kind_low = rw g.kind_is (s.inode n h).kind_low;
         kind_high = rw g.kind_is (s.inode n h).kind_high;
-        shape = record { counted = g.count_is ∙ ap blocks_for (sym g.size_is); single = record { from = λ a. some at_indirect (had_now at_indirect a); to = λ a. g.one_not (rw g.count_is at a) }; twofold = record { from = λ a. some at_double (had_now at_double a); to = λ a. g.two_not (rw g.count_is at a) } };
+        shape = record {
+          counted = g.count_is ∙ ap blocks_for (sym g.size_is);
+          single = record { from = λ a. some at_indirect (had_now at_indirect a); to = λ a. g.one_not (rw g.count_is at a) };
+          twofold = record { from = λ a. some at_double (had_now at_double a); to = λ a. g.two_not (rw g.count_is at a) };
+        };
       }
     where
       some : (p : Place) → Had (blocks_for len) p → 0 < held mid n p

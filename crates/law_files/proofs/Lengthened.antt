@@ -2,12 +2,12 @@
 use mathlib.Core.Path.{◌≡◌, refl, sym, ap, ◌∙◌, subst}
 use mathlib.Core.Logic.{◌≢◌}
 use mathlib.Core.List.{List}
-use Prim.Native.Nat.{ℕ, ◌+◌, ◌-◌, ◌*◌, ◌/◌, ◌%◌, ◌^◌, ◌≤◌, ◌<◌}
+use Prim.Native.Nat.{ℕ, ◌+◌, ◌-◌, ◌*◌, ◌/◌, ◌^◌, ◌≤◌, ◌<◌}
 use native.Mathlib.Omega.{arith}
 use native.Mathlib.Decide.{dec_lt}
-use lib.Dec.{ltb}
 use lib.ListN.{length}
-use Rattle.words.specs.Words.{pick, word, Bytes}
+use Rattle.std.proofs.lemmas.Grind.{common_steps}
+use Rattle.words.specs.Words.{word, Bytes}
 use Rattle.words.specs.Sums.{cnt}
 use Rattle.words.proofs.Numbers.{num_frame}
 use Rattle.card_layout.specs.Sizes.{most, maps_for, blocks_for}
@@ -36,31 +36,22 @@ use Rattle.card_rules.specs.View.{second, data_at}
 use Rattle.card_rules.specs.Whole.{Sound}
 use Rattle.card_rules.specs.Places.{Place, at_indirect, at_double, at_second, at_data}
 use Rattle.card_rules.proofs.Cells.{rank}
-use Rattle.card_rules.proofs.Views.{data_direct, data_indirect, data_double, seconds_mono, seconds_reach, owned_parts, none_below, some_from}
+use Rattle.card_rules.proofs.Views.{data_direct, data_indirect, data_double, seconds_mono, seconds_reach, owned_parts}
 use Rattle.file_blocks.specs.Inner.{Sizes}
 use Rattle.file_blocks.specs.Taking.{Growing, grow_indirect, grow_double, grow_level, grow_direct, grow_single, grow_twofold, grown}
-use Rattle.file_blocks.proofs.Picks.{gap_past, gap_short, gap_over}
 use Rattle.file_grow.proofs.Taken.{nth_free, nth_below, TookLowest}
 use Rattle.file_requests.specs.Resizing.{of_length, lengthened}
 use Rattle.law_files.proofs.Plan.{Had, planned, more, Planning, Grown}
-use Rattle.law_files.proofs.Pointed.{pointers, Pointed}
-use Rattle.law_files.proofs.Tables.{table_of, table_rank, table_first, table_second, had_table, clear_in, blocks_apart, Seats, seat_of}
+use Rattle.law_files.proofs.Pointed.{pointers, Pointed, gap_counts}
+use Rattle.law_files.proofs.Tables.{table_of, table_rank, table_second, had_table, clear_in, blocks_apart, Seats, seat_of}
 use Rattle.law_files.proofs.Data.{Begun, Ended, data_steps}
 use Rattle.law_files.proofs.GrownBytes.{bytes_grown}
 use Rattle.law_files.proofs.Written.{inside, bit_off, unused_off, super_off, block_off, places_are}
 
 -- ---- how many blocks are taken
 
-gap_count : (m a b : ℕ) → a ≤ b → pick (ltb a m) (pick (ltb b m) 0 1) 0 + pick (ltb a m) 0 1 ≡ pick (ltb b m) 0 1
-gap_count m a b h = go (dec_lt a m) (dec_lt b m)
-  where
-    go : Dec (a < m) → Dec (b < m) → pick (ltb a m) (pick (ltb b m) 0 1) 0 + pick (ltb a m) 0 1 ≡ pick (ltb b m) 0 1
-    go (no p) q = omega (arith, gap_past {A = ℕ} m a b 0 1 (omega arith), some_from a m 1 (omega arith), some_from b m 1 (omega arith))
-    go (yes p) (yes q) = omega (arith, gap_short {A = ℕ} m a b 0 1 q, none_below a m 1 p, none_below b m 1 q)
-    go (yes p) (no q) = omega (arith, gap_over {A = ℕ} m a b 0 1 p (omega arith), none_below a m 1 p, some_from b m 1 (omega arith))
-
 pub total : (a b : ℕ) → a ≤ b → pointers a b + (b - a) ≡ owned b - owned a
-total a b h = omega (arith, gap_count 12 a b h, gap_count 1036 a b h, owned_parts a, owned_parts b, seconds_mono a b h)
+total a b h = omega (arith, gap_counts 12 a b h, gap_counts 1036 a b h, owned_parts a, owned_parts b, seconds_mono a b h)
 
 maps_one : (nb : ℕ) → 16 ≤ nb → nb ≤ 32768 → maps_for nb ≡ 1
 unfolding maps_for
@@ -69,7 +60,8 @@ maps_one nb h l = omega arith
 -- ---- the growth
 
 module _ (img l : List ℕ) (s : Sound img l) (bytes : Bytes img) (n : ℕ) (h : 0 < cnt n l) (len : ℕ) (short : len < 2 ^ 32) (up : count img n < blocks_for len)
-    (room : owned (blocks_for len) ≤ owned (count img n) + unused img) (plan : Planning img n (blocks_for len)) (k : FileType) (kind-as : kind img n ≡ kind_no k)
+    (room : owned (blocks_for len) ≤ owned (count img n) + unused img)
+    (plan : Planning img n (blocks_for len)) (k : FileType) (kind-as : kind img n ≡ kind_no k)
     (start : Pointed img n (blocks_for len) (inode_at img n k)
     (grow_level (blocks img) (count img n) (blocks_for len)
     (grow_double (blocks img) (count img n) (blocks_for len)
@@ -114,16 +106,7 @@ module _ (img l : List ℕ) (s : Sound img l) (bytes : Bytes img) (n : ℕ) (h :
 
   seats : Seats nb K a b img H
   unfolding nb K a b H
-  seats =
-      record {
-        few = plan.few;
-        up = up;
-        room = omega (arith, all, exact);
-        new = λ i u v. plan.new (at_data i) v (λ w. omega arith);
-        below = plan.below;
-        clear = plan.clear;
-        apart = plan.apart;
-      }
+  seats = grind (arith, common_steps, all)
 
   start₃ : Pointed img n b (inode_at img n k) g₃
   unfolding b g₃
@@ -144,16 +127,7 @@ module _ (img l : List ℕ) (s : Sound img l) (bytes : Bytes img) (n : ℕ) (h :
   data_old i u = plan.old (at_data i) u
 
   word_old : (i : ℕ) → 12 ≤ i → i < a → word img (seat_of H i) ≡ data_at img n i
-  word_old i m u = go (dec_lt i 1036)
-    where
-      go : Dec (i < 1036) → word img (seat_of H i) ≡ data_at img n i
-      go (yes q) =
-          let e : (i - 12) % 1024 ≡ i - 12 = omega arith in
-          rw (table_first i m q, e, one_old (omega arith)) (sym (data_indirect img n i m q))
-      go (no q) =
-          let e : (i - 12) % 1024 ≡ (i - 1036) % 1024 = omega arith in
-          rw (table_second i (omega arith), e, second_old ((i - 1036) / 1024) (seconds_reach a i u (omega arith)))
-          (sym (data_double img n i (omega arith) (omega (arith, seats.few, seats.up))))
+  word_old i m u = grind (arith, common_steps, one_old, data_indirect, table_second, second_old, seconds_reach, data_double, seats)
 
   -- its pointer blocks are as they were, but the double one
   word_start : (i : ℕ) → 12 ≤ i → i < a → word g₃.cur.img (seat_of H i) ≡ word img (seat_of H i)

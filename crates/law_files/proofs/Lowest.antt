@@ -5,6 +5,7 @@ use mathlib.Core.List.{List, []}
 use Prim.Native.Nat.{ℕ, ◌+◌, ◌≤◌, ◌<◌}
 use native.Mathlib.Omega.{arith}
 use native.Mathlib.Decide.{dec_lt}
+use Rattle.std.proofs.lemmas.Grind.{common_steps}
 use Rattle.words.specs.Words.{Bytes}
 use Rattle.words.specs.Sums.{cnt}
 use Rattle.words.proofs.Sums.{sum_to_next}
@@ -77,7 +78,8 @@ module _ {img out l : List ℕ} {n len : ℕ} (s : Sound img l) (h : 0 < cnt n l
 
 -- ---- a write in its data leaves the map and the places
 
-pub data_lowest : (img : List ℕ) {mid out l : List ℕ} {n : ℕ} → Sound mid l → 0 < cnt n l → blocks mid ≡ blocks img → WithinData mid out n → Lowest img mid n → Lowest img out n
+pub data_lowest : (img : List ℕ) {mid out l : List ℕ} {n : ℕ} → Sound mid l → 0 < cnt n l → blocks mid ≡ blocks img → WithinData mid out n
+    → Lowest img mid n → Lowest img out n
 data_lowest img {mid} {out} {l} {n} m h same w f p u new b q free =
     let slots = data_slots m h w in
     let v : InUse mid n p = in_use_is mid out n (count_is slots.rec) p u in
@@ -98,12 +100,7 @@ module _ (img l : List ℕ) (s : Sound img l) (bytes : Bytes img) (n : ℕ) (h :
   counted = fitted-count img l s bytes n h k e len short room
 
   fitted_lowest : Lowest img (fitted (blocks img) n (inode_at img n k) len img) n
-  fitted_lowest = go (dec_lt (count img n) (blocks_for len))
-    where
-      go : Dec (count img n < blocks_for len) → Lowest img (fitted (blocks img) n (inode_at img n k) len img) n
-      go (yes u) = placed_lowest s h u (omega arith) counted (fit_placed img l s bytes n h k e len short room u)
-      go (no u) = λ p v new.
-          absurd (new (in_use_more (fitted (blocks img) n (inode_at img n k) len img) img n (omega (arith, counted)) p v))
+  fitted_lowest = grind (arith, common_steps, placed_lowest, counted, fit_placed, in_use_more)
 
   pub change_lowest : (z : ℕ) → z ≤ len → Lowest img (new_zero (blocks img) n (inode_at img n k) z (fitted (blocks img) n (inode_at img n k) len img)) n
   change_lowest z below = go (dec_lt (size img n) z)

@@ -1,10 +1,12 @@
 -- A change of one file alone, as every reader of the card sees it; and one after another. `img` is the card before, `out` the card after, l the inodes of
 -- both. Assumes nothing.
-use mathlib.Core.Path.{◌≡◌, refl, sym, ◌∙◌}
+use mathlib.Core.Path.{◌≡◌, sym, ◌∙◌}
+use native.Mathlib.Omega.{arith}
 use mathlib.Core.Logic.{◌≢◌}
 use mathlib.Core.List.{List}
 use Prim.Native.Nat.{ℕ, ◌<◌}
 use lib.ListN.{length}
+use Rattle.std.proofs.lemmas.Grind.{common_steps}
 use Rattle.words.specs.Words.{Bytes}
 use Rattle.words.specs.Sums.{cnt}
 use Rattle.card_layout.specs.Super.{blocks, maps}
@@ -12,7 +14,7 @@ use Rattle.card_layout.specs.Inode.{kind, links}
 use Rattle.card_rules.specs.Whole.{Sound, Tree, Whole}
 use Rattle.card_rules.specs.Places.{Place, held, InUse}
 use Rattle.card_rules.specs.Same.{SameFile}
-use Rattle.card_rules.proofs.Frames.{kind_is, links_is, count_is, file_refl, file_trans}
+use Rattle.card_rules.proofs.Frames.{kind_is, links_is, count_is, file_trans}
 use Rattle.card_rules.proofs.Kept.{blocks_is, maps_is, slots_few}
 use Rattle.card_rules.proofs.Isolation.{WithinData, others_same, whole_one, whole_data_write, data_slots, data_others, data_super}
 use Rattle.law_files.proofs.Resized.{Resized, held_is, in_use_is}
@@ -34,18 +36,7 @@ whole_of {img} {l} s t = record { inodes = l; sound = s; tree = t }
 
 module _ {l img : List ℕ} (s : Sound img l) (t : Tree img l) (b : Bytes img) where
   pub only_refl : (n : ℕ) → Only l img img n
-  only_refl n =
-      record {
-        sound = s;
-        tree = t;
-        bytes = b;
-        blocks_same = refl;
-        maps_same = refl;
-        others = λ m _ _. file_refl img m;
-        kind_same = refl;
-        links_same = refl;
-        places = λ p _ _. refl;
-      }
+  only_refl n = grind (arith, common_steps)
 
   pub only_resized : {out : List ℕ} {n len z : ℕ} → 0 < cnt n l → kind img n ≢ 2 → Resized img out n len z → Only l img out n
   only_resized {out} {n} {len} {z} h k r =

@@ -1,11 +1,11 @@
 -- A file that grows, by its blocks: each place holds the block of the plan, and the lowest free blocks are gone from the map. `img` is the card before,
 -- `out` the card after. Assumes nothing.
-use mathlib.Core.Path.{◌≡◌, sym, ap, ◌∙◌, subst}
+use mathlib.Core.Path.{◌≡◌, ◌∙◌}
 use mathlib.Core.Logic.{◌≢◌}
-use mathlib.Core.Bool.{true}
-use mathlib.Core.List.{List, []}
+use mathlib.Core.List.{List}
 use Prim.Native.Nat.{ℕ, ◌+◌, ◌*◌, ◌≤◌, ◌<◌}
 use native.Mathlib.Omega.{arith}
+use Rattle.std.proofs.lemmas.Grind.{common_steps}
 use Rattle.words.specs.Words.{Bytes}
 use Rattle.words.specs.Sums.{cnt}
 use Rattle.card_layout.specs.Sizes.{blocks_for}
@@ -21,7 +21,7 @@ use Rattle.card_rules.proofs.Kept.{slots_few, bit_of_lem}
 use Rattle.card_rules.proofs.Isolation.{WithinData, sound_one, data_slots, data_map}
 use Rattle.file_grow.proofs.Taken.{nth_free, nth_below}
 use Rattle.file_requests.specs.Resizing.{lengthened, cleaned, fitted, resized}
-use Rattle.file_requests.proofs.Changes.{fitted_up, new_some, resized_is}
+use Rattle.file_requests.proofs.Changes.{fitted_up, resized_is}
 use Rattle.file_requests.specs.Requests.{longest, needs}
 use Rattle.law_files.proofs.Change.{Changed}
 use Rattle.law_files.proofs.Plan.{Had, had_in_use, planned, more, Planning, Grown}
@@ -62,9 +62,7 @@ module _ (img l : List ℕ) (s : Sound img l) (bytes : Bytes img) (n : ℕ) (h :
 
   -- the zeroing comes last, within its data
   zeroed : WithinData mid (cleaned (blocks img) n (size img n) len mid) n
-  zeroed =
-      subst (λ (b : ℕ). WithinData mid (cleaned b n (size img n) len mid) n) same_blocks
-      (filled_within mid_sound changed.bytes n h true [] (size img n) len (omega (arith, (s.inode n h).shape.counted)) (omega (arith, grown.count_is)))
+  zeroed = grind (arith, common_steps, filled_within, mid_sound, changed)
 
   low : (x : ℕ) → x < blocks img → x < 32768 * maps mid
   low x q = bit_of_lem mid mid_sound.sized x (omega (arith, same_blocks))
@@ -84,15 +82,7 @@ module _ (img l : List ℕ) (s : Sound img l) (bytes : Bytes img) (n : ℕ) (h :
 
   -- without the zeroing
   pub fit_placed : Placed img (fitted (blocks img) n (inode_at img n k) len img) n len
-  fit_placed =
-      rw (fitted_up (blocks img) n (inode_at img n k) len img up)
-      (record { places = grown.placed; gone = grown.gone; others = λ x q d. grown.others x (omega (arith, s.sized.many)) d })
+  fit_placed = grind (arith, common_steps, fitted_up, grown)
 
   pub grow_placed : Placed img (resized (blocks img) n (inode_at img n k) len img) n len
-  grow_placed =
-      let z : size img n < len = omega (arith, (s.inode n h).shape.counted) in
-      let e =
-      resized_is (blocks img) n (inode_at img n k) len img
-      ∙ new_some (blocks img) n (inode_at img n k) len (fitted (blocks img) n (inode_at img n k) len img) z
-      ∙ ap (cleaned (blocks img) n (size img n) len) (fitted_up (blocks img) n (inode_at img n k) len img up) in
-      subst (λ (x : List ℕ). Placed img x n len) (sym e) after
+  grow_placed = grind (arith, common_steps, resized_is, fitted_up, after)

@@ -7,6 +7,7 @@ use Prim.Native.Nat.{ℕ, ◌+◌, ◌-◌, ◌*◌, ◌≤◌, ◌<◌}
 use native.Mathlib.Omega.{arith}
 use native.Mathlib.Decide.{dec_lt}
 use lib.Dec.{ltb}
+use Rattle.std.proofs.lemmas.Grind.{common_steps}
 use Rattle.words.specs.Words.{pick}
 use Rattle.words.specs.Sums.{cnt}
 use Rattle.words.proofs.Sums.{sum_on_term}
@@ -16,24 +17,21 @@ use Rattle.card_layout.specs.Slots.{seconds, owned}
 use Rattle.card_map.specs.Bits.{map_bit, free_bits}
 use Rattle.card_rules.specs.Places.{Place, at_inode, at_indirect, at_double, at_second, at_data, held, InUse}
 use Rattle.card_rules.specs.Whole.{Sound}
-use Rattle.card_rules.proofs.Views.{none_below, some_from, seconds_mono, owned_parts, owned_least}
+use Rattle.card_rules.proofs.Views.{seconds_mono, owned_parts, owned_least}
 use Rattle.card_rules.proofs.Cells.{held-owned}
 use Rattle.card_rules.proofs.Owners.{held_below, owned_taken, places_differ, not_zero, not_map, free_not_zero, free_not_map}
 use Rattle.card_rules.proofs.Counting.{set_and_owned}
 use Rattle.card_rules.proofs.Kept.{bit_of_lem}
-use Rattle.file_blocks.proofs.Picks.{pick_yes, pick_no, gap_past, gap_short, gap_over}
+use Rattle.file_blocks.proofs.Picks.{pick_yes, pick_no, gap_over}
 use Rattle.file_grow.proofs.Taken.{nth_free, nth_free_lem, nth_below}
 use Rattle.file_grow.proofs.Runs.{Clear}
 use Rattle.law_files.proofs.Plan.{Had, had_in_use, in_use_had, new_one, new_two, turn_of, planned, more, Planning}
+use Rattle.law_files.proofs.Tables.{block_clear}
 
 -- ---- places
 
 from_dec : (m c : ℕ) → Dec (m ≤ c)
-from_dec m c = go (dec_lt c m)
-  where
-    go : Dec (c < m) → Dec (m ≤ c)
-    go (yes h) = no (λ l. omega arith)
-    go (no h) = yes (omega arith)
+from_dec m c = grind (arith, common_steps)
 
 pub had_dec : (c : ℕ) (p : Place) → Dec (Had c p)
 had_dec c at_inode = yes tt
@@ -54,12 +52,7 @@ used_dec img n p = go (had_dec (count img n) p)
 module _ (a b : ℕ) (up : a ≤ b) where
   -- what a file has from m blocks on: one of b blocks has it where one of a blocks has it or gets it
   gap : (m : ℕ) → pick (ltb b m) 0 1 ≡ pick (ltb a m) (pick (ltb b m) 0 1) 0 + pick (ltb a m) 0 1
-  gap m = go (dec_lt a m) (dec_lt b m)
-    where
-      go : Dec (a < m) → Dec (b < m) → pick (ltb b m) 0 1 ≡ pick (ltb a m) (pick (ltb b m) 0 1) 0 + pick (ltb a m) 0 1
-      go (yes h) (yes k) = omega (arith, gap_short {A = ℕ} m a b 0 1 k, none_below a m 1 h, none_below b m 1 k)
-      go (yes h) (no k) = omega (arith, gap_over {A = ℕ} m a b 0 1 h (omega arith), none_below a m 1 h, some_from b m 1 (omega arith))
-      go (no h) k = omega (arith, gap_past {A = ℕ} m a b 0 1 (omega arith), some_from a m 1 (omega arith), some_from b m 1 (omega arith))
+  gap m = grind (arith, common_steps)
 
   -- how many turns there are
   pub turns_all : owned b - owned a ≡ new_one a b + new_two a b + (seconds b - seconds a) + (b - a)
@@ -105,9 +98,6 @@ module _ (a b : ℕ) (up : a ≤ b) where
   turn_apart p q h d k c e = sym (place_turn p h d) ∙ ap place_of e ∙ place_turn q k c
 
 -- ---- blocks
-
-clear_of : (x : ℕ) → x ≢ 0 → x ≢ 2 → Clear (4096 * x) 4096
-clear_of x z m = record { count = λ p q. omega arith; map = λ p q. omega arith }
 
 -- the i-th and the j-th free block are one block only where i is j
 pub nth_same : (nb : ℕ) (img : List ℕ) (i j : ℕ) → i < free_bits img nb → j < free_bits img nb → nth_free nb img i ≡ nth_free nb img j → i ≡ j
@@ -160,7 +150,7 @@ module _ (img l : List ℕ) (s : Sound img l) (n : ℕ) (h : 0 < cnt n l) (b : �
     new_below = rw (new p a d) (nth_below (blocks img) img (turn_of (count img n) b p) (turn_free p a d)).0
 
     free : map_bit img (planned img n b p) ≡ 1
-    free = rw (new p a d) (nth_free_lem (blocks img) img (turn_of (count img n) b p) (nth_below (blocks img) img (turn_of (count img n) b p) (turn_free p a d)).0)
+    free = grind (arith, common_steps, nth_free_lem, nth_below, turn_free)
 
   old_taken : (p : Place) → InUse img n p → map_bit img (planned img n b p) ≡ 0
   old_taken p u = rw (old p u) (owned_taken img l s n (held img n p) h (held-owned img n p u))
@@ -176,10 +166,10 @@ module _ (img l : List ℕ) (s : Sound img l) (n : ℕ) (h : 0 < cnt n l) (b : �
   clear p a = go (used_dec img n p)
     where
       go : Dec (InUse img n p) → Clear (4096 * planned img n b p) 4096
-      go (yes u) = rw (old p u) (clear_of (held img n p) (not_zero img l s n p h u) (not_map img l s n p h u 0 one_map))
+      go (yes u) = rw (old p u) (block_clear (held img n p) (not_zero img l s n p h u) (not_map img l s n p h u 0 one_map))
       go (no d) =
           let x : ℕ = planned img n b p in
-          clear_of x (free_not_zero img l s x (new_below p a d) (free p a d)) (free_not_map img l s x (new_below p a d) (free p a d) 0 one_map)
+          block_clear x (free_not_zero img l s x (new_below p a d) (free p a d)) (free_not_map img l s x (new_below p a d) (free p a d) 0 one_map)
 
   apart : (p q : Place) → Had b p → Had b q → (p ≡ q → ⊥) → planned img n b p ≢ planned img n b q
   apart p q a c d e = go (used_dec img n p) (used_dec img n q)

@@ -2,11 +2,12 @@
 use mathlib.Core.Path.{◌≡◌, refl, sym, ap, ◌∙◌}
 use mathlib.Core.List.{List}
 use Prim.Native.Nat.{ℕ, ◌+◌, ◌-◌, ◌*◌, ◌≤◌, ◌<◌}
-use native.Mathlib.Nat.{add-zero, zero-add}
+use native.Mathlib.Nat.{zero-add}
 use native.Mathlib.Numerals.{add-one}
 use native.Mathlib.Omega.{arith}
 use native.Mathlib.Decide.{dec_lt}
 use lib.Dec.{ltb}
+use Rattle.std.proofs.lemmas.Grind.{common_steps}
 use Rattle.words.specs.Words.{pick, byte, word, Bytes}
 use Rattle.words.specs.Inner.{Apart}
 use Rattle.words.specs.Sums.{cnt}
@@ -21,11 +22,11 @@ use Rattle.card_map.specs.Bits.{free_bits}
 use Rattle.card_rules.specs.Whole.{Sound}
 use Rattle.card_rules.specs.View.{second}
 use Rattle.card_rules.specs.Places.{at_indirect, at_double, at_second}
-use Rattle.card_rules.proofs.Views.{seconds_none, seconds_some, seconds_many, seconds_mono, owned_parts, none_below, some_from}
-use Rattle.file_blocks.specs.Taking.{Growing, next_of, took_next, moved, grow_indirect, grow_double, grow_level}
+use Rattle.card_rules.proofs.Views.{seconds_none, seconds_some, seconds_many, seconds_mono, owned_parts}
+use Rattle.file_blocks.specs.Taking.{Growing, next_of, took_next, grow_indirect, grow_double, grow_level}
 use Rattle.file_blocks.specs.Inner.{Sizes}
-use Rattle.file_blocks.proofs.Picks.{pick_no, pick-both, gap_past, gap_short, gap_over}
-use Rattle.file_blocks.proofs.Growth.{grow_run_none, level_run, grow_level_in, inode_grow_level}
+use Rattle.file_blocks.proofs.Picks.{pick_no, gap_short}
+use Rattle.file_blocks.proofs.Growth.{grow_run_none, grow_level_in, inode_grow_level}
 use Rattle.file_grow.proofs.Taken.{nth_free, nth_below, TookLowest, took_none, took_next_lem, next_is, byte-took_next}
 use Rattle.file_grow.proofs.Runs.{Clear, Ran, ran}
 use Rattle.law_files.proofs.Plan.{new_one, new_two, planned, Planning}
@@ -55,19 +56,14 @@ clear_part at n p m l h c =
 -- ---- one pointer of the record
 
 -- what a file of b blocks has and one of a blocks has not, of a block that is there from m blocks on: its pointer, which was `old`, and how many
-abbrev pointer : ℕ → ℕ → ℕ → ℕ → ℕ → ℕ
+abbrev pub pointer : ℕ → ℕ → ℕ → ℕ → ℕ → ℕ
 pointer m a b old v = pick (ltb a m) (pick (ltb b m) old v) old
 
-abbrev gap_of : ℕ → ℕ → ℕ → ℕ
+abbrev pub gap_of : ℕ → ℕ → ℕ → ℕ
 gap_of m a b = pointer m a b 0 1
 
-gap_counts : (m a b : ℕ) → a ≤ b → gap_of m a b + pick (ltb a m) 0 1 ≡ pick (ltb b m) 0 1
-gap_counts m a b h = go (dec_lt a m) (dec_lt b m)
-  where
-    go : Dec (a < m) → Dec (b < m) → gap_of m a b + pick (ltb a m) 0 1 ≡ pick (ltb b m) 0 1
-    go (yes p) (yes q) = omega (arith, gap_short {A = ℕ} m a b 0 1 q, none_below a m 1 p, none_below b m 1 q)
-    go (yes p) (no q) = omega (arith, gap_over {A = ℕ} m a b 0 1 p (omega arith), none_below a m 1 p, some_from b m 1 (omega arith))
-    go (no p) q = omega (arith, gap_past {A = ℕ} m a b 0 1 (omega arith), some_from a m 1 (omega arith), some_from b m 1 (omega arith))
+pub gap_counts : (m a b : ℕ) → a ≤ b → gap_of m a b + pick (ltb a m) 0 1 ≡ pick (ltb b m) 0 1
+gap_counts m a b h = grind (arith, common_steps)
 
 pointer_there : (m a b old v : ℕ) → m ≤ b → pointer m a b old v ≡ pick (ltb a m) v old
 pointer_there m a b old v h = ap (λ (x : ℕ). pick (ltb a m) x old) (pick_no b m old v h)
@@ -84,9 +80,6 @@ into nb put g = record { cur = took_next nb g.cur; inode = put g.inode (next_of 
 
 module _ (nb : ℕ) (img : List ℕ) (sizes : Sizes img nb) (exact : unused img ≡ free_bits img nb) (k : ℕ) (put : DiskINode → ℕ → DiskINode) (d : DiskINode)
     (old : ℕ) (was : put d old ≡ d) (g : Growing) (t : TookLowest nb img k g.cur) (i : g.inode ≡ d) where
-  stays : Stepped nb img k 0 (put d old) g g
-  stays = record { took = rw (add-zero k) t; inode_is = i ∙ sym was; kept = λ p h. refl }
-
   steps : k < free_bits img nb → Stepped nb img k 1 (put d (nth_free nb img k)) g (into nb put g)
   steps more =
       record {
@@ -102,18 +95,7 @@ module _ (nb : ℕ) (img : List ℕ) (sizes : Sizes img nb) (exact : unused img 
 
   stepped : (m a b : ℕ) → k + gap_of m a b ≤ free_bits img nb
       → Stepped nb img k (gap_of m a b) (put d (pointer m a b old (nth_free nb img k))) g (pick (ltb a m) (pick (ltb b m) g (into nb put g)) g)
-  stepped m a b more = go (dec_lt a m) (dec_lt b m)
-    where
-      go : Dec (a < m) → Dec (b < m)
-          → Stepped nb img k (gap_of m a b) (put d (pointer m a b old (nth_free nb img k))) g (pick (ltb a m) (pick (ltb b m) g (into nb put g)) g)
-      go p (yes q) = rw (gap_short {A = ℕ} m a b 0 1 q, gap_short m a b old (nth_free nb img k) q, gap_short m a b g (into nb put g) q) stays
-      go (no p) (no q) =
-          let h : m ≤ a = omega arith in
-          rw (gap_past {A = ℕ} m a b 0 1 h, gap_past m a b old (nth_free nb img k) h, gap_past m a b g (into nb put g) h) stays
-      go (yes p) (no q) =
-          let h : m ≤ b = omega arith in
-          rw (gap_over {A = ℕ} m a b 0 1 p h, gap_over m a b old (nth_free nb img k) p h, gap_over m a b g (into nb put g) p h)
-          (steps (omega (arith, gap_over {A = ℕ} m a b 0 1 p h)))
+  stepped m a b more = grind (arith, common_steps, steps)
 
 -- ---- the second level
 
@@ -122,15 +104,10 @@ module _ (nb : ℕ) (img : List ℕ) (sizes : Sizes img nb) (exact : unused img 
   -- none is taken below 1036 blocks, whatever the double pointer says
   level_stays : b < 1036 → (grow_level nb a b g).cur ≡ g.cur
   unfolding grow_level
-  level_stays h =
-      pick-both (λ x. x.cur ≡ g.cur) (ltb g.inode.head.db_indirect.0 nb) (moved g (level_run nb a b g)) g
-      (rw (seconds_none b h, seconds_none a (omega arith)) (sym (grow_run_none nb (4096 * g.inode.head.db_indirect.0 + 4 * 0) g.cur)))
-      refl
+  level_stays h = grind (arith, common_steps, seconds_none, grow_run_none)
 
   level_none : (at : ℕ) → b < 1036 → Ran nb img k at (seconds b - seconds a) g.cur (grow_level nb a b g).cur
-  level_none at h =
-      rw (level_stays h, seconds_none b h, seconds_none a (omega arith))
-      (record { took = rw (add-zero k) t; listed = λ j l. omega arith; kept = λ p c e. refl })
+  level_none at h = grind (arith, common_steps, level_stays, seconds_none)
 
   level_some : (x : ℕ) → g.inode.head.db_indirect.0 ≡ x → x < nb → Clear (4096 * x) 4096 → seconds b ≤ 1024
       → k + (seconds b - seconds a) ≤ free_bits img nb
@@ -163,24 +140,10 @@ module _ (img l : List ℕ) (s : Sound img l) (bytes : Bytes img) (n : ℕ) (h :
   exact = sym s.free
 
   enough : pointers a b ≤ free_bits img nb
-  enough =
-      omega (
-        arith,
-        room,
-        exact,
-        owned_parts a,
-        owned_parts b,
-        gap_counts 12 a b (omega arith),
-        gap_counts 1036 a b (omega arith),
-        seconds_mono a b (omega arith),
-      )
+  enough = grind (arith, common_steps, owned_parts, seconds_mono)
 
   few : seconds b ≤ 1024
-  few = go (dec_lt b 1036)
-    where
-      go : Dec (b < 1036) → seconds b ≤ 1024
-      go (yes l) = omega (arith, seconds_none b l)
-      go (no l) = omega (arith, seconds_some b (omega arith), plan.few)
+  few = grind (arith, common_steps, seconds_none, seconds_some)
 
   abbrev one : ℕ
   one = pointer 12 a b (indirect img n) (nth_free nb img 0)

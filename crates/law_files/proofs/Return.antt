@@ -1,10 +1,11 @@
 -- Return to start (RULES, demand 3): a day along which no length falls below its starting one, and after which all are at it, leaves map, unused count,
 -- directories and block lists as they were; all along each byte below a file's starting length is as it was or as last written there. Assumes nothing.
-use mathlib.Core.Path.{◌≡◌, refl, sym, ap, ◌∙◌}
+use mathlib.Core.Path.{◌≡◌, sym, ap, ◌∙◌}
 use mathlib.Core.List.{List}
 use Prim.Native.Nat.{ℕ, zero, suc, ◌+◌, ◌*◌, ◌/◌, ◌^◌, ◌≤◌, ◌<◌}
 use native.Mathlib.Omega.{arith}
 use native.Mathlib.Decide.{dec_lt}
+use Rattle.std.proofs.lemmas.Grind.{common_steps}
 use Rattle.words.specs.Words.{byte, Bytes}
 use Rattle.words.specs.Sums.{δ, sum_to, cnt}
 use Rattle.words.proofs.Sums.{sum_to_cong, sum_on_cong}
@@ -15,11 +16,11 @@ use Rattle.card_map.specs.Bits.{map_bit}
 use Rattle.card_map.proofs.Bits.{bit_of, bit_of_zero, bit_of_suc}
 use Rattle.card_map.proofs.Map.{bit_at, free_is}
 use Rattle.card_rules.specs.View.{second, data_at, owns, uses}
-use Rattle.card_rules.specs.Whole.{Reached, Sound, Tree}
+use Rattle.card_rules.specs.Whole.{Sound, Tree}
 use Rattle.card_rules.specs.Places.{Place, at_inode, at_indirect, at_double, at_second, at_data, held, InUse}
 use Rattle.card_rules.proofs.Views.{none_below, some_from, own_indirect, own_double, own_seconds, own_data, owns_parts, uses_parts, seconds_mono}
 use Rattle.card_rules.specs.Same.{SameFile}
-use Rattle.card_rules.proofs.Frames.{file_refl, file_trans}
+use Rattle.card_rules.proofs.Frames.{file_trans}
 use Rattle.card_rules.proofs.Kept.{slots_few}
 use Rattle.law_files.specs.Requests.{Request}
 use Rattle.law_files.specs.Returned.{Returned}
@@ -54,18 +55,7 @@ pub record Since (l start img : List ℕ) : Type 0 where
   pub places : (n : ℕ) (p : Place) → 0 < cnt n l → InUse start n p → held img n p ≡ held start n p
 
 pub since_start : {l start : List ℕ} → Sound start l → Tree start l → Bytes start → Since l start start
-since_start {l} {start} s t b =
-    record {
-      sound = s;
-      tree = t;
-      bytes = b;
-      blocks_same = refl;
-      maps_same = refl;
-      kinds_same = λ n _. refl;
-      dirs_same = λ n _ _. file_refl start n;
-      sizes = λ n _. omega arith;
-      places = λ n p _ _. refl;
-    }
+since_start {l} {start} s t b = grind (arith, common_steps)
 
 -- a longer file uses what a shorter one does
 pub in_use_more : (img out : List ℕ) (n : ℕ) → count img n ≤ count out n → (p : Place) → InUse img n p → InUse out n p
@@ -79,7 +69,8 @@ count-more : {img out l : List ℕ} → Sound img l → Sound out l → (n : ℕ
 count-more s t n c h = omega (arith, (s.inode n c).shape.counted, (t.inode n c).shape.counted)
 
 module _ {l start : List ℕ} (s : Sound start l) where
-  pub since_step : {img out : List ℕ} {r : Request} → Since l start img → Step l img out r → ((n : ℕ) → 0 < cnt n l → size start n ≤ size out n) → Since l start out
+  pub since_step : {img out : List ℕ} {r : Request} → Since l start img → Step l img out r → ((n : ℕ) → 0 < cnt n l → size start n ≤ size out n)
+      → Since l start out
   since_step {img} {out} {r} z x h =
       record {
         sound = x.sound;
@@ -136,37 +127,11 @@ module _ {l start : List ℕ} (s : Sound start l) where
             (λ i a. ap (λ (x : ℕ). δ x b) (z.places n (at_data i) c a))
 
     uses_back : (b : ℕ) → uses out l b ≡ uses start l b
-    uses_back b =
-        omega (
-          arith,
-          uses_parts out l b,
-          uses_parts start l b,
-          ap (sum_to (λ i. δ (2 + i) b)) z.maps_same,
-          sum_on_cong (λ n. owns out n b) (λ n. owns start n b) l (λ n c. owns_back n b c),
-        )
+    uses_back b = grind (arith, common_steps, uses_parts, sum_on_cong, owns_back)
 
     -- a block's bit is what its uses leave of 1
     bit_back : (b : ℕ) → b < blocks start → map_bit out b ≡ map_bit start b
     bit_back b q = omega (arith, z.sound.once b (rw z.blocks_same q), s.once b q, uses_back b)
 
-    bits_back : (b : ℕ) → b < 32768 * maps start → Dec (b < blocks start) → map_bit out b ≡ map_bit start b
-    bits_back b q (yes a) = bit_back b a
-    bits_back b q (no a) =
-        z.sound.past b (rw z.blocks_same (let h : blocks start ≤ b = omega arith in h)) (rw z.maps_same q) ∙ sym (s.past b (omega arith) q)
-
-    in_start : (n : ℕ) → Reached start n → 0 < cnt n l
-    in_start n r = omega (arith, t.all n r)
-
     pub returned : Returned start out
-    returned =
-        record {
-          map = λ k q. byte_bits start out k bytes z.bytes (λ i l. bits_back (8 * k + i) (omega arith) (dec_lt (8 * k + i) (blocks start)));
-          free =
-              sym z.sound.free
-              ∙ ap (sum_to (map_bit out)) z.blocks_same
-              ∙ free_is start out (blocks start) bit_back
-              ∙ s.free;
-          directories = λ n r k. z.dirs_same n (in_start n r) k;
-          counts = λ n r. count_back n (in_start n r);
-          places = λ n p r u. z.places n p (in_start n r) u;
-        }
+    returned = grind (arith, common_steps, byte_bits, free_is, bit_back)

@@ -6,9 +6,9 @@ use mathlib.Core.Logic.{◌≢◌, ⊎_elim}
 use Prim.Native.Nat.{ℕ, ◌+◌, ◌-◌, ◌*◌, ◌/◌, ◌%◌, ◌^◌, ◌≤◌, ◌<◌}
 use native.Mathlib.Nat.{zero-add}
 use native.Mathlib.Omega.{arith}
-use native.Mathlib.Decide.{dec_lt}
 use lib.Dec.{ltb}
 use lib.ListN.{length}
+use Rattle.std.proofs.lemmas.Grind.{common_steps}
 use Rattle.words.specs.Words.{pick, byte, num, Bytes}
 use Rattle.words.specs.Inner.{Apart}
 use Rattle.words.specs.Sums.{δ, cnt}
@@ -58,12 +58,12 @@ use Rattle.card_map.proofs.Map.{bit_is, free_is}
 use Rattle.card_rules.specs.View.{slot, second, data_at, owns}
 use Rattle.card_rules.specs.Whole.{Inode, Sound}
 use Rattle.card_rules.specs.Places.{Place, at_inode, at_indirect, at_double, at_second, at_data, held, InUse}
-use Rattle.card_rules.proofs.Views.{data_direct, data_indirect, data_double, seconds_many, seconds_reach, none_below, ranges, owns_parts, owns_own}
+use Rattle.card_rules.proofs.Views.{data_direct, data_indirect, data_double, seconds_many, seconds_reach, ranges, owns_parts, owns_own}
 use Rattle.card_rules.proofs.Counting.{count_below}
 use Rattle.card_rules.proofs.Cells.{rank}
 use Rattle.card_rules.proofs.Owners.{owns-uses, inode_below, places_differ, not_zero, not_map}
 use Rattle.card_rules.specs.Same.{SameBlock}
-use Rattle.card_rules.proofs.Frames.{block_from, block_slot, seconds_fit}
+use Rattle.card_rules.proofs.Frames.{block_slot, seconds_fit}
 use Rattle.card_rules.proofs.Kept.{Steady, slots_few}
 use Rattle.card_rules.proofs.Isolation.{Balanced}
 use Rattle.file_blocks.specs.Taking.{shrunk, less_indirect, less_double}
@@ -74,7 +74,6 @@ use Rattle.law_files.proofs.Change.{Changed}
 use Rattle.law_files.proofs.Plan.{Had, in_use_had}
 use Rattle.law_files.proofs.Freed.{Freed, freed_none}
 use Rattle.law_files.proofs.Losses.{is_data, is_second, used_by, lost, owns_lost, left, left_needed, left_none, left-low, less_both}
-use Rattle.law_files.proofs.Tables.{block_clear, clear_in}
 use Rattle.law_files.proofs.GivenUp.{one_map, shrunk_freed}
 
 -- d is the record of inode n of card img with another length, at which it has b blocks, and no pointer blocks that it does not need
@@ -118,12 +117,7 @@ module _ (img l : List ℕ) (s : Sound img l) (n : ℕ) (h : 0 < cnt n l) (len :
   far p c a = byte-encoded_off mid n d room r.fits p a ∙ f.kept p c
 
   block_same : (x : ℕ) → x ≢ 0 → x ≢ 2 → x ≢ n → SameBlock img out x
-  block_same x z m o =
-      block_from img out x
-      (λ p q t. far p (clear_in x p 1 (block_clear x z m) q (omega arith)) (off p q t))
-    where
-      off : (p : ℕ) → 4096 * x ≤ p → p < 4096 * x + 4096 → Apart p 1 (4096 * n) 80
-      off p q t u v = o (omega arith)
+  block_same x z m o = grind (arith, common_steps, far)
 
   -- a block at a place of n beside its own
   place_same : (p : Place) → InUse img n p → 0 < rank p → SameBlock img out (held img n p)
@@ -224,11 +218,7 @@ module _ (img l : List ℕ) (s : Sound img l) (n : ℕ) (h : 0 < cnt n l) (len :
   -- ---- the blocks that it uses
 
   optional : (m x y z : ℕ) → (m ≤ b → y ≡ z) → pick (ltb b m) 0 (δ y x) ≡ pick (ltb b m) 0 (δ z x)
-  optional m x y z e = go (dec_lt b m)
-    where
-      go : Dec (b < m) → pick (ltb b m) 0 (δ y x) ≡ pick (ltb b m) 0 (δ z x)
-      go (yes q) = none_below b m (δ y x) q ∙ sym (none_below b m (δ z x) q)
-      go (no q) = ap (λ (v : ℕ). pick (ltb b m) 0 (δ v x)) (e (omega arith))
+  optional m x y z e = grind (arith, common_steps)
 
   owns_out : (x : ℕ) → owns out n x ≡ used_by img n x b
   owns_out x =
@@ -248,7 +238,17 @@ module _ (img l : List ℕ) (s : Sound img l) (n : ℕ) (h : 0 < cnt n l) (len :
       record {
         kind_low = rw kind_out w.kind_low;
         kind_high = rw kind_out w.kind_high;
-        shape = record { counted = rw (count_out, size_out) refl; single = record { from = rw count_out (λ a. rw (indirect_out a) (w.shape.single.from (omega arith))); to = rw count_out (λ a. indirect-encoded mid n d room r.fits ∙ r.indirect_none a) }; twofold = record { from = rw count_out (λ a. rw (double_out a) (w.shape.twofold.from (omega arith))); to = rw count_out (λ a. double-encoded mid n d room r.fits ∙ r.double_none a) } };
+        shape = record {
+          counted = rw (count_out, size_out) refl;
+          single = record {
+            from = rw count_out (λ a. rw (indirect_out a) (w.shape.single.from (omega arith)));
+            to = rw count_out (λ a. indirect-encoded mid n d room r.fits ∙ r.indirect_none a);
+          };
+          twofold = record {
+            from = rw count_out (λ a. rw (double_out a) (w.shape.twofold.from (omega arith)));
+            to = rw count_out (λ a. double-encoded mid n d room r.fits ∙ r.double_none a);
+          };
+        };
       }
 
   balanced : Balanced img out n

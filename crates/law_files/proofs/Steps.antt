@@ -5,6 +5,7 @@ use mathlib.Core.List.{List}
 use Prim.Native.Nat.{ℕ, ◌<◌}
 use native.Mathlib.Omega.{arith}
 use native.Mathlib.Decide.{dec_lt, ℕ_discrete}
+use Rattle.std.proofs.lemmas.Grind.{common_steps}
 use Rattle.words.specs.Words.{Bytes}
 use Rattle.words.specs.Sums.{cnt}
 use Rattle.card_layout.specs.Super.{blocks, unused, maps}
@@ -15,7 +16,7 @@ use Rattle.card_rules.specs.View.{file_byte}
 use Rattle.card_rules.specs.Whole.{Sound, Tree}
 use Rattle.card_rules.specs.Places.{Place, held, InUse}
 use Rattle.card_rules.specs.Same.{SameFile}
-use Rattle.card_rules.proofs.Frames.{kind_is, file_refl, file_byte_is, inode_room}
+use Rattle.card_rules.proofs.Frames.{kind_is, file_byte_is, inode_room}
 use Rattle.card_rules.proofs.Kept.{slots_few}
 use Rattle.file_requests.specs.Requests.{longest, needs, resize_card}
 use Rattle.law_files.specs.Requests.{Request, resizing, named}
@@ -45,19 +46,7 @@ pub record Step (l img out : List ℕ) (r : Request) : Type 0 where
 
 module _ {l img : List ℕ} (s : Sound img l) (t : Tree img l) (b : Bytes img) where
   pub step_none : (r : Request) → ((m o v : ℕ) → written l img r m o v ≡ v) → Step l img img r
-  step_none r w =
-      record {
-        sound = s;
-        tree = t;
-        bytes = b;
-        blocks_same = refl;
-        maps_same = refl;
-        kinds_same = λ m _. refl;
-        others_same = λ m _ _. file_refl img m;
-        dirs_same = λ m _ _. file_refl img m;
-        places = λ m p _ _ _. refl;
-        byte_is = λ m o _ _ _. sym (w m o (file_byte img m o));
-      }
+  step_none r w = grind (arith, common_steps)
 
   pub step_only : {out : List ℕ} (r : Request) (n : ℕ) → named r ≡ n → kind img n ≢ 2 → Only l img out n → ((m o v : ℕ) → m ≢ n → written l img r m o v ≡ v)
       → ((o : ℕ) → o < size img n → o < size out n → file_byte out n o ≡ written l img r n o (file_byte img n o)) → Step l img out r

@@ -1,18 +1,18 @@
 -- The pointer blocks of a growing file that list data: how a run goes on in one of them. H is the block of each place; a the block count before, b the one
 -- after; K blocks have been taken before the first of data. Assumes nothing.
-use mathlib.Core.Path.{◌≡◌, refl, sym, ap, ◌∙◌, subst}
+use mathlib.Core.Path.{◌≡◌, sym, ap, ◌∙◌}
 use mathlib.Core.Logic.{◌≢◌}
 use mathlib.Core.List.{List}
 use Prim.Native.Nat.{ℕ, zero, suc, ◌+◌, ◌-◌, ◌*◌, ◌/◌, ◌%◌, ◌≤◌, ◌<◌}
 use native.Mathlib.Omega.{arith}
-use native.Mathlib.Decide.{dec_lt, ℕ_discrete}
+use Rattle.std.proofs.lemmas.Grind.{common_steps}
 use Rattle.words.specs.Words.{byte, word}
 use Rattle.words.specs.Inner.{Apart}
 use Rattle.words.proofs.Numbers.{num_frame}
 use Rattle.card_layout.specs.Super.{unused}
 use Rattle.card_layout.specs.Slots.{seconds}
 use Rattle.card_map.specs.Bits.{free_bits}
-use Rattle.card_rules.specs.Places.{Place, at_inode, at_indirect, at_double, at_second, at_data}
+use Rattle.card_rules.specs.Places.{Place, at_indirect, at_double, at_second, at_data}
 use Rattle.card_rules.proofs.Cells.{rank}
 use Rattle.card_rules.proofs.Views.{seconds_some, seconds_many, seconds_reach}
 use Rattle.file_blocks.specs.Inner.{Sizes}
@@ -27,26 +27,9 @@ abbrev pub table_of : ℕ → Place
 table_of zero = at_indirect
 table_of (suc q) = at_second q
 
-abbrev table_no : Place → ℕ
-table_no at_inode = 0
-table_no at_indirect = 0
-table_no at_double = 0
-table_no (at_second q) = suc q
-table_no (at_data i) = 0
-
-table_no_lem : (t : ℕ) → table_no (table_of t) ≡ t
-table_no_lem zero = refl
-table_no_lem (suc q) = refl
-
-table_apart : (t u : ℕ) → t ≢ u → table_of t ≢ table_of u
-table_apart t u d e = d (sym (table_no_lem t) ∙ ap table_no e ∙ table_no_lem u)
-
 pub table_rank : (t : ℕ) → (0 < rank (table_of t)) × (rank (table_of t) < 4) × (rank (table_of t) ≢ 2)
 table_rank zero = (omega arith, omega arith, λ e. omega arith)
 table_rank (suc q) = (omega arith, omega arith, λ e. omega arith)
-
-table_double : (t : ℕ) → table_of t ≢ at_double
-table_double t e = (table_rank t).2 (ap rank e)
 
 -- that of block i
 pub table_first : (i : ℕ) → 12 ≤ i → i < 1036 → table_of ((i - 12) / 1024) ≡ at_indirect
@@ -56,11 +39,7 @@ pub table_second : (i : ℕ) → 1036 ≤ i → table_of ((i - 12) / 1024) ≡ a
 table_second i h = let e : (i - 12) / 1024 ≡ suc ((i - 1036) / 1024) = omega arith in ap table_of e
 
 pub had_table : (b i : ℕ) → 12 ≤ i → i < b → Had b (table_of ((i - 12) / 1024))
-had_table b i h l = go (dec_lt i 1036)
-  where
-    go : Dec (i < 1036) → Had b (table_of ((i - 12) / 1024))
-    go (yes q) = rw (table_first i h q) (omega arith)
-    go (no q) = rw (table_second i (omega arith)) (seconds_reach b i l (omega arith))
+had_table b i h l = grind (arith, common_steps, table_second, seconds_reach)
 
 -- a block that is neither the superblock's nor the map's
 pub block_clear : (x : ℕ) → x ≢ 0 → x ≢ 2 → Clear (4096 * x) 4096
@@ -99,11 +78,7 @@ pub record Listed (nb K a b : ℕ) (img : List ℕ) (H : Place → ℕ) (m : ℕ
 
 module _ {nb K a b : ℕ} {img : List ℕ} {H : Place → ℕ} (s : Seats nb K a b img H) where
   pub seconds-low : seconds b ≤ 1024
-  seconds-low = go (dec_lt 0 (seconds b))
-    where
-      go : Dec (0 < seconds b) → seconds b ≤ 1024
-      go (yes h) = omega (arith, s.few, seconds_some b (seconds_many b h))
-      go (no h) = omega arith
+  seconds-low = grind (arith, common_steps, seconds_some, seconds_many)
 
   -- a word of a block of H stays where its bytes do
   pub word_kept : (x y : List ℕ) (p : Place) (o : ℕ) → Had b p → o < 1024
@@ -142,17 +117,7 @@ module _ {nb K a b : ℕ} {img : List ℕ} {H : Place → ℕ} (s : Seats nb K a
     -- the slots before m
     before : (i : ℕ) → 12 ≤ i → i < m → word out.img (seat_of H i) ≡ word c.img (seat_of H i)
     unfolding at
-    before i l u = go (ℕ_discrete t ((i - 12) / 1024))
-      where
-        hi : Had b (table_of ((i - 12) / 1024))
-        hi = had_table b i l (omega arith)
-
-        go : Dec (t ≡ (i - 12) / 1024) → word out.img (seat_of H i) ≡ word c.img (seat_of H i)
-        go (yes q) =
-            let same : H (table_of t) ≡ H (table_of ((i - 12) / 1024)) = ap (λ (x : ℕ). H (table_of x)) q in
-            word_kept c.img out.img (table_of ((i - 12) / 1024)) ((i - 12) % 1024) hi (omega arith)
-            (λ k clear v w. r.kept k clear (λ x y. omega arith))
-        go (no q) = elsewhere (table_of ((i - 12) / 1024)) ((i - 12) % 1024) hi (table_apart t ((i - 12) / 1024) q) (omega arith)
+    before i l u = grind (arith, common_steps, had_table, word_kept, r, elsewhere)
 
     -- and those from m on
     here : (i : ℕ) → m ≤ i → i < e → word out.img (seat_of H i) ≡ H (at_data i)
@@ -165,16 +130,4 @@ module _ {nb K a b : ℕ} {img : List ℕ} {H : Place → ℕ} (s : Seats nb K a
 
     pub fills : Listed nb K a b img H e (grow_run nb (4096 * H (table_of t) + 4 * (m - (12 + 1024 * t))) (e - m) c)
     unfolding out at
-    fills =
-        record {
-          took = let turn : K + (m - a) + (e - m) ≡ K + (e - a) = omega arith in subst (λ (x : ℕ). TookLowest nb img x out) turn r.took;
-          table = λ j l. elsewhere at_double j (seconds_many b (omega arith)) (table_double t) (omega (arith, seconds-low)) ∙ f.table j l;
-          listed = λ i l u. go i l u (dec_lt i m);
-          kept = λ p clear d.
-              let x = d (table_of t) h (table_rank t).0 (table_rank t).1 in
-              r.kept p clear (λ u v. x (omega arith) (omega arith)) ∙ f.kept p clear d;
-        }
-      where
-        go : (i : ℕ) → 12 ≤ i → i < e → Dec (i < m) → word out.img (seat_of H i) ≡ H (at_data i)
-        go i l u (yes q) = before i l q ∙ f.listed i l q
-        go i l u (no q) = here i (omega arith) u
+    fills = grind (arith, common_steps, r, elsewhere, seconds_many, seconds-low, before, here)

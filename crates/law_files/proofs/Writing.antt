@@ -7,8 +7,9 @@ use Prim.Native.Nat.{ℕ, ◌+◌, ◌-◌, ◌*◌, ◌/◌, ◌%◌, ◌≤◌
 use native.Mathlib.Omega.{arith}
 use native.Mathlib.Decide.{dec_lt, ℕ_discrete}
 use borrow.Author.Tests.{eq-eqb, ne_eqb, lt-ltb, le-ltb}
-use lib.Dec.{eqb, ltb}
+use lib.Dec.{eqb}
 use lib.ListN.{length}
+use Rattle.std.proofs.lemmas.Grind.{common_steps}
 use Rattle.words.specs.Words.{pick, byte, Bytes}
 use Rattle.words.specs.Sums.{cnt}
 use Rattle.card_layout.specs.Super.{blocks, unused}
@@ -24,8 +25,8 @@ use Rattle.file_blocks.specs.Bytes.{filled}
 use Rattle.file_blocks.proofs.Lengths.{length-filled}
 use Rattle.card_layout.proofs.InodeLaws.{inode_at}
 use Rattle.file_requests.specs.Resizing.{fitted, new_zero}
-use Rattle.file_requests.specs.Requests.{longest, needs, end_of, filed_no, write_answer, write_card}
-use Rattle.file_requests.specs.declared.Filed.TheVariants.{Count}
+use Rattle.file_requests.proofs.Answers.{write-inside}
+use Rattle.file_requests.specs.Requests.{longest, needs, end_of, write_answer, write_card}
 use Rattle.law_files.specs.Requests.{Request, reading, writing, resizing, OfBytes}
 use Rattle.law_files.specs.Inner.{answered, after, written}
 use Rattle.law_files.proofs.Filling.{bytes_filled, filled_within, filled-comes, filled_stays}
@@ -34,36 +35,21 @@ use Rattle.law_files.proofs.TailShown.{change_shows}
 use Rattle.law_files.proofs.Lowest.{data_lowest, change_lowest}
 use Rattle.law_files.specs.Effects.{Stood, Lowest}
 use Rattle.law_files.proofs.Only.{Only, only_refl, only_resized, only_data}
-use Rattle.law_files.proofs.Requests.{
-  OfKind,
-  kinds,
-  Filelike,
-  filelike_not,
-  judged-long,
-  judged-full,
-  judged_fine,
-  write-inside,
-  write-past,
-  write_dir,
-  write_dir_card,
-  write_answer_lem,
-  write_done,
-  write_file,
-  write_long_lem,
-  write_full_lem,
-  reaching_no,
-  reaching_yes,
-}
+use Rattle.law_files.proofs.Requests.{OfKind, kinds, Filelike, filelike_not, write_dir, write_dir_card, write_answer_lem}
+use Rattle.law_files.proofs.Requests.{write_done, write_file, past_long, past_full, past_fits, write_long_lem, write_full_lem, reaching_no, reaching_yes}
 use Rattle.law_files.proofs.Steps.{Step, step_none, step_only, step_resize}
+use Rattle.refusals.specs.Refusals.{answer_no}
+use Rattle.std.specs.Prelude.{Ok}
 
 -- ---- refused, or done on a card `mid` on which the file reaches far enough
 
 pub data Wrote (l img : List ℕ) (n off : ℕ) (src : List ℕ) : Type 0 where
-  refused : filed_no (write_answer img n off src) ≢ 0 → write_card (blocks img) img n off src ≡ img → Wrote l img n off src
+  refused : answer_no (write_answer img n off src) ≢ 0 → write_card (blocks img) img n off src ≡ img → Wrote l img n off src
   reached : (mid : List ℕ) → kind img n ≢ 2 → Only l img mid n → size mid n ≡ max (size img n) (end_of off src)
       → ((o : ℕ) → o < size img n → file_byte mid n o ≡ file_byte img n o)
-      → Lowest img mid n → ((o : ℕ) → size img n ≤ o → o < off → file_byte mid n o ≡ 0) → ((o : ℕ) → size mid n ≤ o → o < 4096 * count mid n → Stood img mid n o)
-      → write_answer img n off src ≡ Count (length src)
+      → Lowest img mid n → ((o : ℕ) → size img n ≤ o → o < off → file_byte mid n o ≡ 0)
+      → ((o : ℕ) → size mid n ≤ o → o < 4096 * count mid n → Stood img mid n o)
+      → write_answer img n off src ≡ Ok (length src)
       → write_card (blocks img) img n off src ≡ filled false src (blocks mid) n off (end_of off src) mid → Wrote l img n off src
 
 module _ {l img : List ℕ} (s : Sound img l) (t : Tree img l) (b : Bytes img) (n : ℕ) (h : 0 < cnt n l) (off : ℕ) (src : List ℕ) where
@@ -75,23 +61,20 @@ module _ {l img : List ℕ} (s : Sound img l) (t : Tree img l) (b : Bytes img) (
     write_in : end_of off src ≤ size img n → Wrote l img n off src
     write_in e =
         let j = write-inside (unused img) (head_at img n k) (end_of off src) e in
-        reached img not_dir (only_refl s t b n) (omega arith) (λ p a. refl) (λ p u new. absurd (new u)) (λ p a l. absurd (omega arith)) (λ p a l. file_byte_at img n p) (write_file o f off src j)
-        (write_done o f off src (blocks img) j ∙ ap (filled false src (blocks img) n off (end_of off src)) (reaching_no o f (blocks img) (end_of off src) off e))
+        reached img not_dir (only_refl s t b n) (omega arith) (λ p a. refl) (λ p u new. absurd (new u)) (λ p a l. absurd (omega arith))
+        (λ p a l. file_byte_at img n p) (write_file o f off src j)
+        (write_done o f off src (blocks img) j
+        ∙ ap (filled false src (blocks img) n off (end_of off src)) (reaching_no o f (blocks img) (end_of off src) off e))
 
     -- past it: the length changes first, where 12 and 14 allow
     write_out : size img n < end_of off src → Dec (longest < end_of off src) → Dec (unused img < needs (count img n) (end_of off src)) → Wrote l img n off src
     write_out e (yes a) d =
-        refused
-        (rw (write_answer_lem o f off src, write-past (unused img) (head_at img n k) (end_of off src) e, judged-long (unused img) (head_at img n k) (end_of off src) a)
-        (λ q. omega arith))
-        (write_long_lem o f off src (blocks img) a e)
+        refused (rw (write_answer_lem o f off src, past_long img n k (end_of off src) e a) (λ q. omega arith)) (write_long_lem o f off src (blocks img) a e)
     write_out e (no a) (yes d) =
-        refused
-        (rw (write_answer_lem o f off src, write-past (unused img) (head_at img n k) (end_of off src) e, judged-full (unused img) (head_at img n k) (end_of off src) (omega arith) d)
-        (λ q. omega arith))
+        refused (rw (write_answer_lem o f off src, past_full img n k (end_of off src) e (omega arith) d) (λ q. omega arith))
         (write_full_lem o f off src (blocks img) (omega arith) e d)
     write_out e (no a) (no d) =
-        let j = write-past (unused img) (head_at img n k) (end_of off src) e ∙ judged_fine (unused img) (head_at img n k) (end_of off src) (omega arith) (omega arith) in
+        let j = past_fits img n k (end_of off src) e (omega arith) (omega arith) in
         let r = zeroed_change img l s b n h k o.number (end_of off src) (omega arith) (omega arith) off (omega arith) in
         let x = only_resized s t b h not_dir r in
         reached _ not_dir x (omega (arith, r.size_is)) (λ p a. r.kept p a (omega arith))
@@ -103,7 +86,11 @@ module _ {l img : List ℕ} (s : Sound img l) (t : Tree img l) (b : Bytes img) (
         (write_file o f off src j)
         (write_done o f off src (blocks img) j
         ∙ ap (filled false src (blocks img) n off (end_of off src)) (reaching_yes o f (blocks img) (end_of off src) off e)
-        ∙ ap (λ (nb : ℕ). filled false src nb n off (end_of off src) (new_zero (blocks img) n (inode_at img n k) off (fitted (blocks img) n (inode_at img n k) (end_of off src) img))) (sym x.blocks_same))
+        ∙ ap
+        (λ (nb : ℕ).
+        filled false src nb n off (end_of off src)
+        (new_zero (blocks img) n (inode_at img n k) off (fitted (blocks img) n (inode_at img n k) (end_of off src) img)))
+        (sym x.blocks_same))
 
     write_tests_lem : Dec (size img n < end_of off src) → Wrote l img n off src
     write_tests_lem (yes e) = write_out e (dec_lt longest (end_of off src)) (dec_lt (unused img) (needs (count img n) (end_of off src)))
@@ -128,29 +115,19 @@ module _ (l img : List ℕ) (n off : ℕ) (src : List ℕ) where
   written_unlisted : cnt n l ≡ 0 → (m o v : ℕ) → written l img (writing n off src) m o v ≡ v
   written_unlisted e m o v = rw (eq-eqb (cnt n l) 0 e)
 
-  written_not : filed_no (write_answer img n off src) ≢ 0 → (m o v : ℕ) → written l img (writing n off src) m o v ≡ v
-  written_not d m o v = go (ℕ_discrete (cnt n l) 0)
-    where
-      go : Dec (cnt n l ≡ 0) → written l img (writing n off src) m o v ≡ v
-      go (yes e) = written_unlisted e m o v
-      go (no e) = rw (ne_eqb (cnt n l) 0 e, ne_eqb (filed_no (write_answer img n off src)) 0 d)
+  written_not : answer_no (write_answer img n off src) ≢ 0 → (m o v : ℕ) → written l img (writing n off src) m o v ≡ v
+  written_not d m o v = grind (arith, common_steps)
 
   written_other : (m o v : ℕ) → m ≢ n → written l img (writing n off src) m o v ≡ v
   written_other m o v d = rw (ne_eqb n m (λ e. d (sym e))) (pick_same (eqb (answered l img (writing n off src)) 0) v)
 
-  module _ (h : 0 < cnt n l) (done : write_answer img n off src ≡ Count (length src)) (o v : ℕ) where
+  module _ (h : 0 < cnt n l) (done : write_answer img n off src ≡ Ok (length src)) (o v : ℕ) where
     written_in : off ≤ o → o < off + length src → written l img (writing n off src) n o v ≡ byte src (o - off)
     written_in a b =
         rw (ne_eqb (cnt n l) 0 (λ e. omega arith), done, eq-eqb n n refl, le-ltb o off a, lt-ltb o (off + length src) b)
 
     written_out : (off ≤ o → o < off + length src → ⊥) → written l img (writing n off src) n o v ≡ v
-    written_out d = rw (ne_eqb (cnt n l) 0 (λ e. omega arith), done, eq-eqb n n refl) (go (dec_lt o off))
-      where
-        go : Dec (o < off) → pick (ltb o off) v (pick (ltb o (off + length src)) (byte src (o - off)) v) ≡ v
-        go (yes a) = rw (lt-ltb o off a)
-        go (no a) =
-            let e : ¬ (o < off + length src) = d (omega arith) in
-            rw (le-ltb o off (omega arith), le-ltb o (off + length src) (omega arith))
+    written_out d = grind (arith, common_steps)
 
 -- ---- the bytes, and the step
 
@@ -175,10 +152,7 @@ module _ {l img mid : List ℕ} (b : Bytes img) (n : ℕ) (h : 0 < cnt n l) (off
   there k l = filled-comes x.sound x.bytes n h false src off (end_of off src) (omega arith) inside k (omega arith)
 
   pub elsewhere : (o : ℕ) → o < size mid n → (off ≤ o → o < end_of off src → ⊥) → file_byte out n o ≡ file_byte mid n o
-  elsewhere o a d =
-      filled_stays x.sound x.bytes n h false src off (end_of off src) (omega arith) inside o
-      (omega (arith, e, inode_room (x.sound.inode n h)))
-      d
+  elsewhere o a d = grind (arith, common_steps, filled_stays)
 
   -- past the end the blocks hold what they held
   pub stood_wrote : (o : ℕ) → max (size img n) (end_of off src) ≤ o → o < 4096 * count mid n → Stood img mid n o
@@ -197,7 +171,7 @@ module _ {l img mid : List ℕ} (b : Bytes img) (n : ℕ) (h : 0 < cnt n l) (off
         only_data s t b h k x fills (length-filled false src (blocks mid) off (end_of off src) n mid)
         (bytes_filled false src (blocks mid) n off (end_of off src) mid c x.bytes)
 
-    module _ (g : (o : ℕ) → o < size img n → file_byte mid n o ≡ file_byte img n o) (done : write_answer img n off src ≡ Count (length src)) where
+    module _ (g : (o : ℕ) → o < size img n → file_byte mid n o ≡ file_byte img n o) (done : write_answer img n off src ≡ Ok (length src)) where
       step_reached : Step l img out (writing n off src)
       step_reached =
           step_only s t b (writing n off src) n refl k only_wrote

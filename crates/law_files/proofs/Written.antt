@@ -6,6 +6,7 @@ use mathlib.Core.List.{List}
 use Prim.Native.Nat.{ℕ, ◌+◌, ◌-◌, ◌*◌, ◌/◌, ◌%◌, ◌≤◌, ◌<◌}
 use native.Mathlib.Omega.{arith}
 use lib.ListN.{length}
+use Rattle.std.proofs.lemmas.Grind.{common_steps}
 use Rattle.words.specs.Words.{byte, word}
 use Rattle.words.specs.Inner.{Apart}
 use Rattle.words.proofs.Numbers.{num_frame}
@@ -56,20 +57,11 @@ module _ {nb K a b : ℕ} {img : List ℕ} {H : Place → ℕ} (s : Seats nb K a
   unused_off = num_frame 4 mid c.img 8 (λ k u v. off k (λ p q. (s.clear at_inode tt).count (omega arith) (omega arith)))
 
   pub super_off : (k : ℕ) → k < 48 → Apart k 1 8 4 → byte mid k ≡ byte img k
-  super_off k l h =
-      off k (λ u v. (s.clear at_inode tt).count (omega arith) (omega arith))
-      ∙ f.kept k (record { count = h; map = λ u v. omega arith }) (λ q w x y u v. (s.clear q w).count (omega arith) (omega arith))
+  super_off k l h = grind (arith, common_steps, off)
 
   -- blocks that are none of H
   pub block_off : (x : ℕ) → x ≢ 0 → x ≢ 2 → ((p : Place) → Had b p → rank p < 4 → x ≢ H p) → SameBlock img mid x
-  block_off x h m e =
-      record {
-        bytes = λ k l.
-            off (4096 * x + k) (λ u v. e at_inode tt (omega arith) (omega arith))
-            ∙ f.kept (4096 * x + k)
-            (record { count = λ u v. h (omega arith); map = λ u v. m (omega arith) })
-            (λ q w y z u v. e q w z (omega arith));
-      }
+  block_off x h m e = grind (arith, common_steps, off)
 
   -- ---- its slots
 
@@ -82,11 +74,7 @@ module _ {nb K a b : ℕ} {img : List ℕ} {H : Place → ℕ} (s : Seats nb K a
     at_two h = double-encoded c.img (H at_inode) d inside fits ∙ two h
 
     at_table : (j : ℕ) → j < seconds b → second mid (H at_inode) j ≡ H (at_second j)
-    at_table j l =
-        let many : 1036 ≤ b = seconds_many b (omega arith) in
-        ap (λ (x : ℕ). slot mid x j) (at_two many)
-        ∙ word_off at_double j many (omega arith) (omega (arith, s.few, seconds_some b many))
-        ∙ f.table j l
+    at_table j l = grind (arith, common_steps, seconds_many, at_two, word_off, seconds_some)
 
     at_seat : (i : ℕ) → 12 ≤ i → i < b → word mid (seat_of H i) ≡ H (at_data i)
     at_seat i l u =

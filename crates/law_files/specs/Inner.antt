@@ -3,8 +3,9 @@ use Rattle.std.specs.Prelude.{ℕ, ◌+◌, ◌-◌, List, eqb, ltb, length}
 use Rattle.words.specs.Words.{pick, byte}
 use Rattle.words.specs.Sums.{cnt}
 use Rattle.card_layout.specs.Super.{blocks}
-use Rattle.file_requests.specs.Requests.{filed_no, resize_answer, resize_card, write_answer, write_card, read_answer}
+use Rattle.file_requests.specs.Requests.{resize_answer, resize_card, write_answer, write_card, read_answer}
 use Rattle.law_files.specs.Requests.{Request, reading, writing, resizing}
+use Rattle.refusals.specs.Refusals.{answer_no}
 
 -- 4 where n is no inode of this card, else what is asked
 abbrev pub if_listed : {A : Type 0} → List ℕ → ℕ → A → A → A
@@ -12,9 +13,9 @@ if_listed l n r x = pick (eqb (cnt n l) 0) r x
 
 -- RULES' number for a request
 abbrev pub answered : List ℕ → List ℕ → Request → ℕ
-answered l img (reading n off k) = if_listed l n 4 (filed_no (read_answer img n off k))
-answered l img (writing n off src) = if_listed l n 4 (filed_no (write_answer img n off src))
-answered l img (resizing n len) = if_listed l n 4 (filed_no (resize_answer img n len))
+answered l img (reading n off k) = if_listed l n 4 (answer_no (read_answer img n off k))
+answered l img (writing n off src) = if_listed l n 4 (answer_no (write_answer img n off src))
+answered l img (resizing n len) = if_listed l n 4 (answer_no (resize_answer img n len))
 
 -- the card after it
 abbrev pub after : List ℕ → List ℕ → Request → List ℕ

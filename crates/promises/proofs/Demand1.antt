@@ -3,13 +3,9 @@ use mathlib.Core.Path.{◌≡◌, refl}
 use mathlib.Core.Logic.{◌≢◌}
 use Prim.Native.Nat.{ℕ}
 use Rattle.card_layout.specs.Inode.{size, kind, links, count}
-use Rattle.check_walk.specs.declared.Opened.{Opened}
-use Rattle.check_walk.specs.declared.Opened.TheVariants.{Open, ScratchShort, WrongFs, Damaged, NoInode}
-use Rattle.check_walk.specs.Opening.{status_of, blocks_of, unused_of}
+use Rattle.check_walk.specs.Opening.{blocks_of, unused_of, Opened}
 use Rattle.check_walk.proofs.Agree.{agree}
-use Rattle.call_said.specs.Said.{said_no, said_value, if_open, of_opened}
-use Rattle.call_said.specs.declared.Said.{Said}
-use Rattle.call_said.specs.declared.Said.TheVariants as S
+use Rattle.call_said.specs.Said.{said_value, of_opened, Said}
 use Rattle.sfs.proofs.Agree.{read_agrees, write_agrees, resize_agrees}
 use Rattle.sfs.proofs.AgreeDirs.{create_agrees, link_agrees, unlink_agrees, move_agrees, format_agrees, find_agrees, entry_agrees, metadata_agrees}
 use Rattle.law_calls.proofs.Refusals.{refused_same, format_refused, read_refused, listed_refused}
@@ -18,6 +14,8 @@ use Rattle.law_calls.proofs.FirstFiles.{read_first, write_first, resize_first, d
 use Rattle.law_calls.proofs.FirstDirs.{create_first, link_first, unlink_first, find_first, entry_first, format_first}
 use Rattle.law_calls.proofs.FirstMove.{move_first}
 use Rattle.promises.specs.Demand1.{Causes, Untouched, Scratch, OneAnswer}
+use Rattle.refusals.specs.Refusals.{answer_no, if_done}
+use Rattle.std.specs.Prelude.{Ok, Err}
 
 pub causes : Causes
 causes =
@@ -37,39 +35,18 @@ causes =
     }
 
 -- "A refusal's other results are 0"
-no_value : (r : Said) → said_no r ≢ 0 → said_value r ≡ 0
-no_value S.Done d = refl
-no_value (S.Count k) d = absurd (d refl)
-no_value (S.Inode n) d = absurd (d refl)
-no_value S.ScratchShort d = refl
-no_value S.WrongFs d = refl
-no_value S.Damaged d = refl
-no_value S.NoInode d = refl
-no_value S.NotFile d = refl
-no_value S.NotDir d = refl
-no_value S.IsDir d = refl
-no_value S.BadName d = refl
-no_value S.EntryExist d = refl
-no_value S.EntryNotFound d = refl
-no_value S.DirNotEmpty d = refl
-no_value S.InvalidParam d = refl
-no_value S.TooManyLinks d = refl
-no_value S.NoDeviceSpace d = refl
+no_value : (r : Said) → answer_no r ≢ 0 → said_value r ≡ 0
+no_value (Ok v) d = absurd (d refl)
+no_value (Err e) d = refl
 
 -- what metadata gives of a card that is not open
-shut : (o : Opened) (x v : ℕ) (r : Said) → r ≡ if_open o S.Done (of_opened o) → said_no r ≢ 0 → v ≡ if_open o x 0 → v ≡ 0
-shut (Open c) x v r e d i = absurd (rw e at d refl)
-shut ScratchShort x v r e d i = i
-shut WrongFs x v r e d i = i
-shut Damaged x v r e d i = i
-shut NoInode x v r e d i = i
+shut : (o : Opened) (x v : ℕ) (r : Said) → r ≡ if_done o (Ok 0) (of_opened o) → answer_no r ≢ 0 → v ≡ if_done o x 0 → v ≡ 0
+shut (Ok c) x v r e d i = absurd (rw e at d refl)
+shut (Err e) x v r q d i = i
 
-no_counts : (o : Opened) → status_of o ≢ 0 → (blocks_of o ≡ 0) × (unused_of o ≡ 0)
-no_counts (Open c) d = absurd (d refl)
-no_counts ScratchShort d = (refl, refl)
-no_counts WrongFs d = (refl, refl)
-no_counts Damaged d = (refl, refl)
-no_counts NoInode d = (refl, refl)
+no_counts : (o : Opened) → answer_no o ≢ 0 → (blocks_of o ≡ 0) × (unused_of o ≡ 0)
+no_counts (Ok c) d = absurd (d refl)
+no_counts (Err e) d = (refl, refl)
 
 pub untouched : Untouched
 untouched =
@@ -103,7 +80,8 @@ one_answer =
       move = λ img s s₁ s₂ x₁ x₂ p old t new r₁ r₂ a b. let e = move_agrees a b in (e.said, e.changed, e.scratch);
       find = λ img s s₁ s₂ p x r₁ r₂ a b. let e = find_agrees a b in (e.said, e.scratch);
       entry = λ img s s₁ s₂ p k r₁ r₂ e₁ e₂ a b. let e = entry_agrees a b in (e.said, e.changed, e.scratch);
-      metadata = λ img s s₁ s₂ n r₁ r₂ k₁ z₁ b₁ l₁ k₂ z₂ b₂ l₂ a b. let e = metadata_agrees a b in (e.0, e.1.kind, e.1.size, e.1.blocks, e.1.links, e.1.scratch);
+      metadata = λ img s s₁ s₂ n r₁ r₂ k₁ z₁ b₁ l₁ k₂ z₂ b₂ l₂ a b.
+          let e = metadata_agrees a b in (e.0, e.1.kind, e.1.size, e.1.blocks, e.1.links, e.1.scratch);
       check = λ img s s₁ s₂ o₁ o₂ a b. agree a b;
       format = λ img x₁ x₂ space r₁ r₂ a b. format_agrees a b;
     }

@@ -13,7 +13,6 @@ use Rattle.card_layout.specs.Slots.{owned}
 use Rattle.card_rules.specs.Whole.{Whole}
 use Rattle.card_rules.proofs.Tree.{reached_listed}
 use Rattle.file_requests.specs.Requests.{longest}
-use Rattle.call_said.specs.Said.{said_no}
 use Rattle.law_calls.specs.Runs.{Call}
 use Rattle.law_calls.specs.Days.{Day}
 use Rattle.law_calls.proofs.Runs.{run_part}
@@ -21,6 +20,7 @@ use Rattle.law_calls.proofs.Days.{day_end, day_return, day_bytes}
 use Rattle.law_calls.proofs.Calls.{resize_refused_exactly}
 use Rattle.law_calls.proofs.FileEffects.{read_gives}
 use Rattle.promises.specs.Demand3.{ReturnToStart, ReadsAs, AllAlong, RefusedExactly}
+use Rattle.refusals.specs.Refusals.{answer_no}
 
 pub return_to_start : ReturnToStart
 return_to_start start out cs w b day ends = day_return w b day ends
@@ -46,11 +46,11 @@ refused_exactly img img' s s' n len r w enough h d c = (
   λ e z. ⊎_elim (λ a. omega (arith, (x.0 z).0)) (λ a. omega (arith, (x.0 z).1)) e,
 )
   where
-    x : (said_no r ≡ 0 → (len ≤ longest) × (owned (blocks_for len) ≤ owned (count img n) + unused img))
-        × (len ≤ longest → owned (blocks_for len) ≤ owned (count img n) + unused img → said_no r ≡ 0)
+    x : (answer_no r ≡ 0 → (len ≤ longest) × (owned (blocks_for len) ≤ owned (count img n) + unused img))
+        × (len ≤ longest → owned (blocks_for len) ≤ owned (count img n) + unused img → answer_no r ≡ 0)
     x = resize_refused_exactly w n h d len enough c
 
-    cause : said_no r ≢ 0 → Dec (longest < len) → Dec (owned (count img n) + unused img < owned (blocks_for len))
+    cause : answer_no r ≢ 0 → Dec (longest < len) → Dec (owned (count img n) + unused img < owned (blocks_for len))
         → (longest < len) ⊎ (owned (count img n) + unused img < owned (blocks_for len))
     cause e (yes a) q = ◌⊎◌.inl a
     cause e (no a) (yes q) = ◌⊎◌.inr q

@@ -11,7 +11,7 @@ use Rattle.card_layout.specs.Super.{blocks}
 use Rattle.card_layout.specs.Inode.{size, kind}
 use Rattle.card_rules.specs.View.{file_byte}
 use Rattle.card_rules.specs.Whole.{Reached, Whole}
-use Rattle.call_said.specs.Said.{said_value, of_filed, of_acted}
+use Rattle.call_said.specs.Said.{said_value, numbered, plain}
 use Rattle.file_requests.specs.Requests.{resize_answer, resize_card}
 use Rattle.law_files.specs.Requests.{writing, resizing}
 use Rattle.law_files.specs.Effects.{WriteEffect, ResizeEffect}
@@ -30,7 +30,8 @@ use Rattle.law_calls.proofs.Acts.{Acts, acts, created_card}
 use Rattle.law_calls.proofs.Shown.{run_shown}
 use Rattle.law_calls.proofs.Effects.{created_effect}
 use Rattle.law_calls.proofs.FileEffects.{read_gives, write_done, write_of_lem, resize_done}
-use Rattle.promises.specs.Insurer.{Answer, Survives, AnswerUnnamed, StaysWhole, SameName, UnderName, OffPath, SamePath, Lasts, Gives, WrittenIsRead, StoredIsRead, ShowsOwn, ShortenedIsGone}
+use Rattle.promises.specs.Insurer.{Answer, Survives, AnswerUnnamed, StaysWhole, SameName, UnderName, OffPath}
+use Rattle.promises.specs.Insurer.{SamePath, Lasts, Gives, WrittenIsRead, StoredIsRead, ShowsOwn, ShortenedIsGone}
 
 pub answer : Answer
 answer img out cs m w b h d r = run_data m (λ i j c p. p.unremoved) (λ i j c p. p.unwritten) w b h d r
@@ -47,7 +48,7 @@ stays_whole img out cs w b r = (run_whole w b r, run_bytes w b r)
 pub same_name : SameName
 same_name img out cs d x w b h k r =
     let y = run_finds d x (λ i j c p. p.unremoved) (λ i j c p. p.unasked) w b h k r in
-    (y.0, y.1, y.2, λ s s' a enough f. find_inode (run_whole w b r) enough y.0 f ∙ ap of_acted y.2)
+    (y.0, y.1, y.2, λ s s' a enough f. find_inode (run_whole w b r) enough y.0 f ∙ ap numbered y.2)
 
 pub under_name : UnderName
 under_name img out cs d x m w b h k plain f n r =
@@ -126,11 +127,12 @@ shows_own img mid out s s' p x k r cs o b g d c z run l =
 
 pub shortened_is_gone : ShortenedIsGone
 shortened_is_gone img mid out s s' t t' n a b r q o bytes c z c' z' lo hi =
-    gives (made_bytes now mid_bytes tt (filed (resize t t' n b q c'))) (made_stays now mid_bytes tt (filed (resize t t' n b q c')) n there (λ _. sum_on_nil (δ n)))
+    gives (made_bytes now mid_bytes tt (filed (resize t t' n b q c')))
+    (made_stays now mid_bytes tt (filed (resize t t' n b q c')) n there (λ _. sum_on_nil (δ n)))
     (omega (arith, y.size_is)) (y.zeros o (omega (arith, x.size_is)) hi)
   where
-    before : Acts img n n (of_filed (resize_answer img n a)) r (resize_card (blocks img) img n a) mid
-    before = acts (of_filed (resize_answer img n a)) (resize_card (blocks img) img n a) img mid c.opened c.opening c.said c.image z
+    before : Acts img n n (plain (resize_answer img n a)) r (resize_card (blocks img) img n a) mid
+    before = acts (plain (resize_answer img n a)) (resize_card (blocks img) img n a) img mid c.opened c.opening c.said c.image z
 
     first : Made img mid (file (resizing n a)) r
     first = filed (resize s s' n a r c)

@@ -1,11 +1,12 @@
 -- No program that meets the statements of the calls is one of the shams (specs/Shams): it is asked to create a file on a card that format made, to write it a
 -- byte and then one in its next block; and to check no bytes. Assumes nothing.
-use mathlib.Core.Path.{◌≡◌, refl, sym, ap, ◌∙◌, subst}
+use mathlib.Core.Path.{◌≡◌, sym, ap, ◌∙◌, subst}
 use mathlib.Core.Logic.{◌≢◌}
 use mathlib.Core.List.{List, [], ◌∷◌}
 use Prim.Native.Nat.{ℕ, ◌+◌, ◌≤◌, ◌<◌, ◌^◌}
 use native.Mathlib.Omega.{arith}
 use lib.ListN.{length, replicate, length-replicate, get_or}
+use Rattle.std.proofs.lemmas.Grind.{common_steps}
 use Rattle.words.specs.Sums.{δ}
 use Rattle.words.proofs.Sums.{sum_on_nil}
 use Rattle.card_layout.specs.Sizes.{blocks_for}
@@ -16,13 +17,9 @@ use Rattle.card_rules.specs.Whole.{Reached, Whole}
 use Rattle.card_rules.proofs.Bare.{one}
 use Rattle.card_rules.proofs.Tree.{reached_listed}
 use Rattle.card_rules.proofs.Views.{owned_few}
-use Rattle.check_walk.specs.declared.Opened.{Opened}
-use Rattle.check_walk.specs.declared.Opened.TheVariants.{Open, ScratchShort, WrongFs, Damaged, NoInode}
-use Rattle.check_walk.specs.Opening.{status_of}
 use Rattle.check_walk.proofs.Agree.{check_whole}
 use Rattle.file_requests.specs.Requests.{longest}
-use Rattle.call_said.specs.Said.{said_no, said_value, of_opened}
-use Rattle.call_said.specs.declared.Said.{Said}
+use Rattle.call_said.specs.Said.{said_value, Said}
 use Rattle.call_dirs.specs.DirCalls.{Created}
 use Rattle.call_files.specs.FileCalls.{Written}
 use Rattle.law_files.specs.Requests.{reading, writing, resizing}
@@ -31,24 +28,8 @@ use Rattle.law_dirs.proofs.FreshBytes.{bytes_tested}
 use Rattle.law_dirs.proofs.Entry.{bytes_zeros}
 use Rattle.law_dirs.proofs.CreateCard.{CreateDone, created_whole}
 use Rattle.law_calls.specs.Calls.{write}
-use Rattle.law_calls.specs.Made.{
-  Asked,
-  file,
-  creating,
-  linking,
-  unlinking,
-  moving,
-  finding,
-  listing,
-  describing,
-  checking,
-  Made,
-  filed,
-  create,
-  check,
-  scratch_of,
-  OfBytesAll,
-}
+use Rattle.law_calls.specs.Made.{Asked, file, creating, linking, unlinking, moving, finding, listing}
+use Rattle.law_calls.specs.Made.{describing, checking, Made, filed, create, check, scratch_of, OfBytesAll}
 use Rattle.law_calls.specs.Examples.{fresh}
 use Rattle.law_calls.proofs.Room.{write_goes}
 use Rattle.law_calls.proofs.FileEffects.{write_done}
@@ -57,6 +38,8 @@ use Rattle.law_calls.proofs.Stays.{made_stays}
 use Rattle.law_calls.proofs.TailCalls.{made_tailed}
 use Rattle.law_calls.proofs.ExamplesCall.{start_16, length_16, file_said, file_done, file_unused}
 use Rattle.promises.specs.Shams.{Program, Slice, Fits, Machine, Meets, NotRefusing, NotFixed, NotIdle, NotOnce, Counted}
+use Rattle.refusals.specs.Refusals.{answer_no}
+use Rattle.refusals.proofs.Refused.{giving_no}
 
 -- ---- the statements, taken out of the call made
 
@@ -68,16 +51,9 @@ made_written : {img out : List ℕ} {n off : ℕ} {src : List ℕ} {r : Said} (m
     → (s' : List ℕ) × Written img out (scratch_of m) s' src n off r
 made_written (filed (write s s' src n off r c)) = (s', c)
 
-shut : (o : Opened) → said_no (of_opened o) ≡ status_of o
-shut (Open c) = refl
-shut ScratchShort = refl
-shut WrongFs = refl
-shut Damaged = refl
-shut NoInode = refl
-
 -- a check that says 0
-made_checked : {img out : List ℕ} {r : Said} → Made img out checking r → said_no r ≡ 0 → Whole img
-made_checked (check s s' o r c i e) z = (check_whole c).0 (sym (shut o) ∙ ap said_no (sym i) ∙ z)
+made_checked : {img out : List ℕ} {r : Said} → Made img out checking r → answer_no r ≡ 0 → Whole img
+made_checked (check s s' o r c i e) z = (check_whole c).0 (sym (giving_no o 0) ∙ ap answer_no (sym i) ∙ z)
 
 -- what is handed in are bytes
 fits_bytes : (q : Asked) → Fits q → OfBytesAll q
@@ -160,7 +136,7 @@ module _ (p : Program) (meets : Meets p) {img s : List ℕ} (g : Ground img s) w
     count_is : count c n ≡ blocks_for len
     count_is = (f.card.sound.inode n (reached_listed c f.card n f.there)).shape.counted ∙ ap blocks_for f.size_is
 
-    done : said_no (p.said c s append) ≡ 0
+    done : answer_no (p.said c s append) ≡ 0
     done =
         write_goes f.card f.there f.no_dir off letter (omega arith) (omega (arith, room, ap owned count_is))
         (omega (arith, f.blocks_are, g.enough)) w.1
@@ -214,7 +190,7 @@ module _ (p : Program) (meets : Meets p) {img s : List ℕ} (g : Ground img s) w
   call : (s' : List ℕ) × Created c0 c1 s s' 1 letter 1 (p.said c0 s ask)
   call = meets_create p meets c0 s 1 letter 1 asked
 
-  creates : said_no (p.said c0 s ask) ≡ 0
+  creates : answer_no (p.said c0 s ask) ≡ 0
   creates = file_said img g.slice.bytes g.long g.enough call.1
 
   create_done : CreateDone one c0 c1 1 letter 1 4
@@ -247,14 +223,7 @@ module _ (p : Program) (meets : Meets p) {img s : List ℕ} (g : Ground img s) w
   one_byte = grown no_bytes (omega arith) 0 (omega arith) (omega arith) room_1
 
   unused_10 : unused c2 ≡ 10
-  unused_10 =
-      omega (
-        arith,
-        taken no_bytes (omega arith) 0 (omega arith) (omega arith) room_1,
-        unused_11,
-        owned_few 1 (omega arith),
-        owned_few 0 (omega arith),
-      )
+  unused_10 = grind (arith, common_steps, taken, no_bytes, unused_11, owned_few)
 
   -- the first byte of the second block
   abbrev next : Asked

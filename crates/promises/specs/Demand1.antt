@@ -4,57 +4,44 @@
 use Rattle.std.specs.Prelude.{ℕ, ◌*◌, ◌≤◌, ◌<◌, ◌≡◌, ◌≢◌, List, length}
 use Rattle.card_layout.specs.Super.{blocks}
 use Rattle.card_rules.specs.Whole.{Sized}
-use Rattle.check_walk.specs.Opening.{status_of, blocks_of, unused_of, Opening, cleared}
-use Rattle.check_walk.specs.declared.Opened.{Opened}
+use Rattle.check_walk.specs.Opening.{blocks_of, unused_of, Opening, cleared, Opened}
 use Rattle.dir_look.specs.Look.{no_entry}
-use Rattle.call_said.specs.Said.{said_no, said_value, of_opened}
-use Rattle.call_said.specs.declared.Said.{Said}
+use Rattle.call_said.specs.Said.{Said, said_value}
 use Rattle.call_files.specs.FileCalls.{Read, Written, Resized}
 use Rattle.call_dirs.specs.DirCalls.{Created, Linked, Unlinked, Moved, Formatted}
 use Rattle.call_looks.specs.LookCalls.{Found, Listed, Described}
 use Rattle.law_calls.specs.Made.{Asked, Made, scratch_of, scratch_after}
-use Rattle.law_calls.specs.Tests.{
-  First,
-  read_tests,
-  write_tests,
-  resize_tests,
-  create_tests,
-  link_tests,
-  unlink_tests,
-  move_tests,
-  find_tests,
-  entry_tests,
-  look_tests,
-  format_tests,
-}
+use Rattle.law_calls.specs.Tests.{First, read_tests, write_tests, resize_tests, create_tests, link_tests}
+use Rattle.law_calls.specs.Tests.{unlink_tests, move_tests, find_tests, entry_tests, look_tests, format_tests}
+use Rattle.refusals.specs.Refusals.{answer_no}
 
 -- "the one number of the rules, for that cause and no other": each call says the number of the first of its tests whose cause holds, and 0 where none does
 pub record Causes : Type 0 where
-  pub read : (img s s' buf buf' : List ℕ) (n off : ℕ) (r : Said) → Read img s s' buf buf' n off r → First (read_tests img s n) (said_no r)
-  pub write : (img img' s s' src : List ℕ) (n off : ℕ) (r : Said) → Written img img' s s' src n off r → First (write_tests img s n off src) (said_no r)
-  pub resize : (img img' s s' : List ℕ) (n len : ℕ) (r : Said) → Resized img img' s s' n len r → First (resize_tests img s n len) (said_no r)
-  pub create : (img img' s s' : List ℕ) (p : ℕ) (x : List ℕ) (k : ℕ) (r : Said) → Created img img' s s' p x k r → First (create_tests img s p x k) (said_no r)
-  pub link : (img img' s s' : List ℕ) (p : ℕ) (x : List ℕ) (c : ℕ) (r : Said) → Linked img img' s s' p x c r → First (link_tests img s p x c) (said_no r)
-  pub unlink : (img img' s s' : List ℕ) (p : ℕ) (x : List ℕ) (r : Said) → Unlinked img img' s s' p x r → First (unlink_tests img s p x) (said_no r)
+  pub read : (img s s' buf buf' : List ℕ) (n off : ℕ) (r : Said) → Read img s s' buf buf' n off r → First (read_tests img s n) (answer_no r)
+  pub write : (img img' s s' src : List ℕ) (n off : ℕ) (r : Said) → Written img img' s s' src n off r → First (write_tests img s n off src) (answer_no r)
+  pub resize : (img img' s s' : List ℕ) (n len : ℕ) (r : Said) → Resized img img' s s' n len r → First (resize_tests img s n len) (answer_no r)
+  pub create : (img img' s s' : List ℕ) (p : ℕ) (x : List ℕ) (k : ℕ) (r : Said) → Created img img' s s' p x k r → First (create_tests img s p x k) (answer_no r)
+  pub link : (img img' s s' : List ℕ) (p : ℕ) (x : List ℕ) (c : ℕ) (r : Said) → Linked img img' s s' p x c r → First (link_tests img s p x c) (answer_no r)
+  pub unlink : (img img' s s' : List ℕ) (p : ℕ) (x : List ℕ) (r : Said) → Unlinked img img' s s' p x r → First (unlink_tests img s p x) (answer_no r)
   pub move : (img img' s s' : List ℕ) (p : ℕ) (old : List ℕ) (t : ℕ) (new : List ℕ) (r : Said) → Moved img img' s s' p old t new r
-      → First (move_tests img s p old t new) (said_no r)
-  pub find : (img s s' : List ℕ) (p : ℕ) (x : List ℕ) (r : Said) → Found img s s' p x r → First (find_tests img s p x) (said_no r)
-  pub entry : (img s s' : List ℕ) (p k : ℕ) (r : Said) (e : List ℕ) → Listed img s s' p k r e → First (entry_tests img s p k) (said_no r)
+      → First (move_tests img s p old t new) (answer_no r)
+  pub find : (img s s' : List ℕ) (p : ℕ) (x : List ℕ) (r : Said) → Found img s s' p x r → First (find_tests img s p x) (answer_no r)
+  pub entry : (img s s' : List ℕ) (p k : ℕ) (r : Said) (e : List ℕ) → Listed img s s' p k r e → First (entry_tests img s p k) (answer_no r)
   pub metadata : (img s s' : List ℕ) (n : ℕ) (r : Said) (kind' size' blocks' links' : ℕ) → Described img s s' n r kind' size' blocks' links'
-      → First (look_tests img s n) (said_no r)
-  pub check : (img s s' : List ℕ) (o : Opened) → Opening img s s' 1 1 o → First (look_tests img s 1) (said_no (of_opened o))
-  pub format : (img img' : List ℕ) (space : ℕ) (r : Said) → Formatted img img' space r → First (format_tests img space) (said_no r)
+      → First (look_tests img s n) (answer_no r)
+  pub check : (img s s' : List ℕ) (o : Opened) → Opening img s s' 1 1 o → First (look_tests img s 1) (answer_no o)
+  pub format : (img img' : List ℕ) (space : ℕ) (r : Said) → Formatted img img' space r → First (format_tests img space) (answer_no r)
 
 -- "changes no byte of image or data buffer", and "A refusal's other results are 0"
 pub record Untouched : Type 0 where
-  pub image : (img img' : List ℕ) (q : Asked) (r : Said) → Made img img' q r → said_no r ≢ 0 → img' ≡ img
-  pub format : (img img' : List ℕ) (space : ℕ) (r : Said) → Formatted img img' space r → said_no r ≢ 0 → img' ≡ img
-  pub buffer : (img s s' buf buf' : List ℕ) (n off : ℕ) (r : Said) → Read img s s' buf buf' n off r → said_no r ≢ 0 → buf' ≡ buf
-  pub value : (r : Said) → said_no r ≢ 0 → said_value r ≡ 0
-  pub entry : (img s s' : List ℕ) (p k : ℕ) (r : Said) (e : List ℕ) → Listed img s s' p k r e → said_no r ≢ 0 → e ≡ no_entry
-  pub metadata : (img s s' : List ℕ) (n : ℕ) (r : Said) (kind' size' blocks' links' : ℕ) → Described img s s' n r kind' size' blocks' links' → said_no r ≢ 0
+  pub image : (img img' : List ℕ) (q : Asked) (r : Said) → Made img img' q r → answer_no r ≢ 0 → img' ≡ img
+  pub format : (img img' : List ℕ) (space : ℕ) (r : Said) → Formatted img img' space r → answer_no r ≢ 0 → img' ≡ img
+  pub buffer : (img s s' buf buf' : List ℕ) (n off : ℕ) (r : Said) → Read img s s' buf buf' n off r → answer_no r ≢ 0 → buf' ≡ buf
+  pub value : (r : Said) → answer_no r ≢ 0 → said_value r ≡ 0
+  pub entry : (img s s' : List ℕ) (p k : ℕ) (r : Said) (e : List ℕ) → Listed img s s' p k r e → answer_no r ≢ 0 → e ≡ no_entry
+  pub metadata : (img s s' : List ℕ) (n : ℕ) (r : Said) (kind' size' blocks' links' : ℕ) → Described img s s' n r kind' size' blocks' links' → answer_no r ≢ 0
       → (kind' ≡ 0) × (size' ≡ 0) × (blocks' ≡ 0) × (links' ≡ 0)
-  pub check : (o : Opened) → status_of o ≢ 0 → (blocks_of o ≡ 0) × (unused_of o ≡ 0)
+  pub check : (o : Opened) → answer_no o ≢ 0 → (blocks_of o ≡ 0) × (unused_of o ≡ 0)
 
 -- "Scratch is 32-bit words: untouched if refused up to the scratch test, otherwise its first 4 a block are zero afterwards", of every call, done or refused;
 -- format is given none

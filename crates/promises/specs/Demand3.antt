@@ -11,12 +11,12 @@ use Rattle.card_layout.specs.Slots.{owned}
 use Rattle.card_rules.specs.View.{file_byte}
 use Rattle.card_rules.specs.Whole.{Reached, Whole}
 use Rattle.file_requests.specs.Requests.{longest}
-use Rattle.call_said.specs.Said.{said_no}
-use Rattle.call_said.specs.declared.Said.{Said}
 use Rattle.call_files.specs.FileCalls.{Read, Resized}
 use Rattle.law_files.specs.Returned.{Returned}
 use Rattle.law_calls.specs.Runs.{Call, Run, last_put}
 use Rattle.law_calls.specs.Days.{OfDay, Day}
+use Rattle.call_said.specs.Said.{Said}
+use Rattle.refusals.specs.Refusals.{answer_no}
 
 -- "and all end at it, leaves map, free count, directories and block lists as at the start"
 abbrev pub ReturnToStart : Type 0
@@ -28,7 +28,7 @@ pub record ReadsAs (start mid : List ℕ) (before : List Call) : Type 0 where
   pub there : (n : ℕ) → Reached start n → Reached mid n
   pub byte_is : (n o : ℕ) → Reached start n → o < size start n → file_byte mid n o ≡ last_put before n o (file_byte start n o)
   pub read_is : (n o : ℕ) → Reached start n → o < size start n → (s s' buf buf' : List ℕ) (off : ℕ) (r : Said) → Read mid s s' buf buf' n off r
-      → said_no r ≡ 0 → off ≤ o → o < off + length buf → byte buf' (o - off) ≡ last_put before n o (file_byte start n o)
+      → answer_no r ≡ 0 → off ≤ o → o < off + length buf → byte buf' (o - off) ≡ last_put before n o (file_byte start n o)
 
 -- "all along": after every first part of a day
 abbrev pub AllAlong : Type 0
@@ -39,5 +39,5 @@ AllAlong = (start out : List ℕ) (before behind : List Call) → Whole start �
 abbrev pub RefusedExactly : Type 0
 RefusedExactly = (img img' s s' : List ℕ) (n len : ℕ) (r : Said) → Whole img → 4 * blocks img ≤ length s → Reached img n → kind img n ≢ 2
     → Resized img img' s s' n len r
-    → (said_no r ≢ 0 → (longest < len) ⊎ (owned (count img n) + unused img < owned (blocks_for len)))
-    × ((longest < len) ⊎ (owned (count img n) + unused img < owned (blocks_for len)) → said_no r ≢ 0)
+    → (answer_no r ≢ 0 → (longest < len) ⊎ (owned (count img n) + unused img < owned (blocks_for len)))
+    × ((longest < len) ⊎ (owned (count img n) + unused img < owned (blocks_for len)) → answer_no r ≢ 0)

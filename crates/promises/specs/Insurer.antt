@@ -10,14 +10,14 @@ use Rattle.card_rules.specs.Whole.{Reached, Whole}
 use Rattle.dir_entries.specs.Names.{is_dots}
 use Rattle.dir_answers.specs.Answers.{the_inode}
 use Rattle.dir_look.specs.Look.{find_answer}
-use Rattle.call_said.specs.Said.{said_no, said_value, of_acted}
-use Rattle.call_said.specs.declared.Said.{Said}
+use Rattle.call_said.specs.Said.{said_value, numbered, Said}
 use Rattle.call_files.specs.FileCalls.{Read, Written, Resized}
 use Rattle.call_dirs.specs.DirCalls.{Created}
 use Rattle.call_looks.specs.LookCalls.{Found}
 use Rattle.law_calls.specs.SameData.{SameData}
 use Rattle.law_calls.specs.Runs.{Call, Run, last_put, last_shown, Unwritten, Unremoved, Unnamed, Unasked}
 use Rattle.law_calls.specs.Paths.{Path, OnWay}
+use Rattle.refusals.specs.Refusals.{answer_no}
 
 -- ---- the other record
 
@@ -56,7 +56,7 @@ pub record Quiet (d : ℕ) (x : List ℕ) (img mid : List ℕ) (c : Call) : Type
 abbrev pub SameName : Type 0
 SameName = (img out : List ℕ) (cs : List Call) (d : ℕ) (x : List ℕ) → Whole img → Bytes img → Reached img d → kind img d ≡ 2 → Run (Quiet d x) img out cs
     → Reached out d × (kind out d ≡ 2) × (find_answer out d x ≡ find_answer img d x)
-    × ((s s' : List ℕ) (r : Said) → 4 * blocks out ≤ length s → Found out s s' d x r → r ≡ of_acted (find_answer img d x))
+    × ((s s' : List ℕ) (r : Said) → 4 * blocks out ≤ length s → Found out s s' d x r → r ≡ numbered (find_answer img d x))
 
 -- and none that is done writes or resizes record m
 pub record QuietBeside (d : ℕ) (x : List ℕ) (m : ℕ) (img mid : List ℕ) (c : Call) : Type 0 where
@@ -91,7 +91,7 @@ pub record Lasts (m o : ℕ) (img mid : List ℕ) (c : Call) : Type 0 where
 abbrev pub Gives : List ℕ → ℕ → ℕ → ℕ → Type 0
 Gives out m o v =
     Reached out m × (file_byte out m o ≡ v)
-    × ((s s' buf buf' : List ℕ) (off : ℕ) (r : Said) → Read out s s' buf buf' m off r → said_no r ≡ 0
+    × ((s s' buf buf' : List ℕ) (off : ℕ) (r : Said) → Read out s s' buf buf' m off r → answer_no r ≡ 0
     → off ≤ o → o < off + length buf → byte buf' (o - off) ≡ v)
 
 -- Byte o of file m, as long as its length stays above o, is what the last done write to m put there, else what it was; and a public read after these calls
@@ -103,7 +103,7 @@ WrittenIsRead = (img out : List ℕ) (cs : List Call) (m o : ℕ) → Whole img 
 -- So a byte that was just stored, by a write that is done, is read until a later write puts another there.
 abbrev pub StoredIsRead : Type 0
 StoredIsRead = (img mid out s s' src : List ℕ) (cs : List Call) (m off o : ℕ) (r : Said) → Bytes img → Bytes src → Written img mid s s' src m off r
-    → said_no r ≡ 0 → off ≤ o → o < off + length src → Run (Lasts m o) mid out cs → Gives out m o (last_put cs m o (byte src (o - off)))
+    → answer_no r ≡ 0 → off ≤ o → o < off + length src → Run (Lasts m o) mid out cs → Gives out m o (last_put cs m o (byte src (o - off)))
 
 -- ---- a record shows only what was written to it
 
@@ -111,10 +111,10 @@ StoredIsRead = (img mid out s s' src : List ℕ) (cs : List Call) (m off o : ℕ
 -- over that byte, or 0; and a public read gives it. So a read of m never gives a byte of another record, removed ones included.
 abbrev pub ShowsOwn : Type 0
 ShowsOwn = (img mid out s s' : List ℕ) (p : ℕ) (x : List ℕ) (k : ℕ) (r : Said) (cs : List Call) (o : ℕ) → Bytes img → Bytes x → k ≢ 2
-    → Created img mid s s' p x k r → said_no r ≡ 0 → Run (λ a b c. Unremoved (said_value r) a c) mid out cs → o < size out (said_value r)
+    → Created img mid s s' p x k r → answer_no r ≡ 0 → Run (λ a b c. Unremoved (said_value r) a c) mid out cs → o < size out (said_value r)
     → Gives out (said_value r) o (last_shown cs (said_value r) o 0)
 
 -- What a volunteer asked for: a note shortened to a bytes and then lengthened to b reads zero from a on, whatever stood there.
 abbrev pub ShortenedIsGone : Type 0
-ShortenedIsGone = (img mid out s s' t t' : List ℕ) (n a b : ℕ) (r q : Said) (o : ℕ) → Bytes img → Resized img mid s s' n a r → said_no r ≡ 0
-    → Resized mid out t t' n b q → said_no q ≡ 0 → a ≤ o → o < b → Gives out n o 0
+ShortenedIsGone = (img mid out s s' t t' : List ℕ) (n a b : ℕ) (r q : Said) (o : ℕ) → Bytes img → Resized img mid s s' n a r → answer_no r ≡ 0
+    → Resized mid out t t' n b q → answer_no q ≡ 0 → a ≤ o → o < b → Gives out n o 0

@@ -7,23 +7,10 @@ use Rattle.card_layout.specs.Super.{blocks, unused}
 use Rattle.card_layout.specs.Inode.{size}
 use Rattle.card_map.specs.Bits.{free_bits}
 use Rattle.card_rules.specs.Whole.{Whole}
-use Rattle.call_said.specs.Said.{said_no}
-use Rattle.call_said.specs.declared.Said.{Said}
 use Rattle.law_files.specs.Requests.{reading, writing, resizing}
-use Rattle.law_calls.specs.Made.{
-  Asked,
-  file,
-  creating,
-  linking,
-  unlinking,
-  moving,
-  finding,
-  listing,
-  describing,
-  checking,
-  Made,
-  scratch_of,
-}
+use Rattle.law_calls.specs.Made.{Asked, file, creating, linking, unlinking, moving, finding, listing, describing, checking, Made, scratch_of}
+use Rattle.call_said.specs.Said.{Said}
+use Rattle.refusals.specs.Refusals.{answer_no}
 
 -- image, scratch, request
 pub record Program : Type 0 where
@@ -64,11 +51,11 @@ Meets p = (img s : List ℕ) (q : Asked) → Machine img s q → (m : Made img (
 
 -- "One refusing every call"
 abbrev pub NotRefusing : Type 0
-NotRefusing = (p : Program) → Meets p → ((img s : List ℕ) (q : Asked) → Machine img s q → said_no (p.said img s q) ≢ 0) → ⊥
+NotRefusing = (p : Program) → Meets p → ((img s : List ℕ) (q : Asked) → Machine img s q → answer_no (p.said img s q) ≢ 0) → ⊥
 
 -- "One returning a fixed answer": whatever the call, it says the number k, of a refusal or 0
 abbrev pub NotFixed : Type 0
-NotFixed = (p : Program) (k : ℕ) → Meets p → ((img s : List ℕ) (q : Asked) → Machine img s q → said_no (p.said img s q) ≡ k) → ⊥
+NotFixed = (p : Program) (k : ℕ) → Meets p → ((img s : List ℕ) (q : Asked) → Machine img s q → answer_no (p.said img s q) ≡ k) → ⊥
 
 -- "or leaving the card alone and saying done"
 abbrev pub NotIdle : Type 0

@@ -6,14 +6,13 @@ use mathlib.Core.List.{List}
 use lib.ListN.{length}
 use Rattle.card_layout.specs.Super.{blocks}
 use Rattle.file_requests.specs.Requests.{resize_answer, resize_card, write_answer, write_card, read_answer, read_buffer}
-use Rattle.check_walk.specs.declared.Opened.{Opened}
-use Rattle.check_walk.specs.Opening.{Opening, status_of, blocks_of, unused_of}
+use Rattle.check_walk.specs.Opening.{Opening, blocks_of, unused_of, Opened}
 use Rattle.check_walk.proofs.Agree.{agree}
-use Rattle.call_said.specs.Said.{said_no, said_value, if_open, of_opened, of_filed}
+use Rattle.call_said.specs.Said.{said_value, of_opened, plain, Said}
 use Rattle.call_files.specs.FileCalls.{Read, Written, Resized}
 use Rattle.sfs.specs.Check.{Checked}
 use Rattle.sfs.specs.FileCallsC.{ReadC, WrittenC, ResizedC}
-use Rattle.call_said.specs.declared.Said.{Said}
+use Rattle.refusals.specs.Refusals.{answer_no, if_done}
 
 -- what depends on the opening alone is the same of two openings
 pub by_opening : {A : Type 0} (f : Opened → A) {o p : Opened} {x y : A} → o ≡ p → x ≡ f o → y ≡ f p → x ≡ y
@@ -39,20 +38,20 @@ module _ {img s s₁ s₂ : List ℕ} {n m : ℕ} {o p : Opened} (a : Opening im
   same f g d e h k = let q = agree a b in record { said = by_opening f q.0 d e; changed = by_opening g q.0 h k; scratch = q.1 }
 
 pub same_c : {r₁ r₂ : Said} {a₁ a₂ v₁ v₂ : ℕ} {x₁ x₂ s₁ s₂ : List ℕ} → Same r₁ r₂ x₁ x₂ s₁ s₂
-    → a₁ ≡ said_no r₁ → a₂ ≡ said_no r₂ → v₁ ≡ said_value r₁ → v₂ ≡ said_value r₂ → SameC a₁ a₂ v₁ v₂ x₁ x₂ s₁ s₂
+    → a₁ ≡ answer_no r₁ → a₂ ≡ answer_no r₂ → v₁ ≡ said_value r₁ → v₂ ≡ said_value r₂ → SameC a₁ a₂ v₁ v₂ x₁ x₂ s₁ s₂
 same_c q a b c d =
     record {
-      status = a ∙ ap said_no q.said ∙ sym b;
+      status = a ∙ ap answer_no q.said ∙ sym b;
       value = c ∙ ap said_value q.said ∙ sym d;
       changed = q.changed;
       scratch = q.scratch;
     }
 
 -- C has no value of some: 0 for both
-pub no_value : {r₁ r₂ : Said} {a₁ a₂ : ℕ} {x₁ x₂ s₁ s₂ : List ℕ} → Same r₁ r₂ x₁ x₂ s₁ s₂ → a₁ ≡ said_no r₁ → a₂ ≡ said_no r₂
+pub no_value : {r₁ r₂ : Said} {a₁ a₂ : ℕ} {x₁ x₂ s₁ s₂ : List ℕ} → Same r₁ r₂ x₁ x₂ s₁ s₂ → a₁ ≡ answer_no r₁ → a₂ ≡ answer_no r₂
     → SameC a₁ a₂ 0 0 x₁ x₂ s₁ s₂
 no_value q a b =
-    record { status = a ∙ ap said_no q.said ∙ sym b; value = refl; changed = q.changed; scratch = q.scratch }
+    record { status = a ∙ ap answer_no q.said ∙ sym b; value = refl; changed = q.changed; scratch = q.scratch }
 
 -- ---- the check: the number, the two counts and the scratch; the image is lent as `&[u8]`
 
@@ -67,7 +66,7 @@ pub checked_agrees : {img s s₁ s₂ : List ℕ} {a₁ a₂ b₁ b₂ u₁ u₂
 checked_agrees a b =
     let q = agree a.opening b.opening in
     record {
-      status = by_opening status_of q.0 a.status_is b.status_is;
+      status = by_opening answer_no q.0 a.status_is b.status_is;
       blocks = by_opening blocks_of q.0 a.blocks_is b.blocks_is;
       unused = by_opening unused_of q.0 a.unused_is b.unused_is;
       scratch = q.1;
@@ -79,8 +78,8 @@ module _ {img s s₁ s₂ : List ℕ} {n : ℕ} where
   module _ {buf x₁ x₂ : List ℕ} {off : ℕ} where
     pub read_agrees : {r₁ r₂ : Said} → Read img s s₁ buf x₁ n off r₁ → Read img s s₂ buf x₂ n off r₂ → Same r₁ r₂ x₁ x₂ s₁ s₂
     read_agrees a b =
-        same a.opening b.opening (λ o. if_open o (of_filed (read_answer img n off (length buf))) (of_opened o))
-        (λ o. if_open o (read_buffer (blocks img) img n off buf) buf)
+        same a.opening b.opening (λ o. if_done o (read_answer img n off (length buf)) (of_opened o))
+        (λ o. if_done o (read_buffer (blocks img) img n off buf) buf)
         a.said
         b.said
         a.buffer
@@ -94,8 +93,8 @@ module _ {img s s₁ s₂ : List ℕ} {n : ℕ} where
   module _ {src x₁ x₂ : List ℕ} {off : ℕ} where
     pub write_agrees : {r₁ r₂ : Said} → Written img x₁ s s₁ src n off r₁ → Written img x₂ s s₂ src n off r₂ → Same r₁ r₂ x₁ x₂ s₁ s₂
     write_agrees a b =
-        same a.opening b.opening (λ o. if_open o (of_filed (write_answer img n off src)) (of_opened o))
-        (λ o. if_open o (write_card (blocks img) img n off src) img)
+        same a.opening b.opening (λ o. if_done o (write_answer img n off src) (of_opened o))
+        (λ o. if_done o (write_card (blocks img) img n off src) img)
         a.said
         b.said
         a.image
@@ -109,8 +108,8 @@ module _ {img s s₁ s₂ : List ℕ} {n : ℕ} where
   module _ {x₁ x₂ : List ℕ} {len : ℕ} where
     pub resize_agrees : {r₁ r₂ : Said} → Resized img x₁ s s₁ n len r₁ → Resized img x₂ s s₂ n len r₂ → Same r₁ r₂ x₁ x₂ s₁ s₂
     resize_agrees a b =
-        same a.opening b.opening (λ o. if_open o (of_filed (resize_answer img n len)) (of_opened o))
-        (λ o. if_open o (resize_card (blocks img) img n len) img)
+        same a.opening b.opening (λ o. if_done o (plain (resize_answer img n len)) (of_opened o))
+        (λ o. if_done o (resize_card (blocks img) img n len) img)
         a.said
         b.said
         a.image

@@ -11,13 +11,13 @@ use Rattle.dir_unlink.specs.Unlink.{unlink_answer, unlink_card}
 use Rattle.dir_move.specs.Move.{move_answer, move_card}
 use Rattle.dir_look.specs.Look.{find_answer, entry_answer, no_entry, entry_bytes}
 use Rattle.check_walk.proofs.Agree.{agree}
-use Rattle.call_said.specs.Said.{said_no, if_open, of_opened, of_acted}
+use Rattle.call_said.specs.Said.{of_opened, numbered, plain, Said}
 use Rattle.call_dirs.specs.DirCalls.{Created, Linked, Unlinked, Moved, Formatted}
 use Rattle.call_looks.specs.LookCalls.{Found, Listed, Described}
 use Rattle.sfs.specs.DirCallsC.{CreatedC, LinkedC, UnlinkedC, MovedC, FoundC, ListedC, DescribedC, FormattedC}
-use Rattle.call_said.specs.declared.Said.{Said}
-use Rattle.call_said.specs.declared.Said.TheVariants.{Done}
 use Rattle.sfs.proofs.Agree.{by_opening, Same, SameC, same, same_c, no_value}
+use Rattle.refusals.specs.Refusals.{answer_no, if_done}
+use Rattle.std.specs.Prelude.{Ok}
 
 -- ---- the calls that change the image
 
@@ -25,8 +25,8 @@ module _ {img s s₁ s₂ x₁ x₂ : List ℕ} {p : ℕ} {x : List ℕ} where
   module _ {k : ℕ} where
     pub create_agrees : {r₁ r₂ : Said} → Created img x₁ s s₁ p x k r₁ → Created img x₂ s s₂ p x k r₂ → Same r₁ r₂ x₁ x₂ s₁ s₂
     create_agrees a b =
-        same a.opening b.opening (λ o. if_open o (of_acted (create_answer (blocks img) img p x k)) (of_opened o))
-        (λ o. if_open o (create_card (blocks img) img p x k) img)
+        same a.opening b.opening (λ o. if_done o (numbered (create_answer (blocks img) img p x k)) (of_opened o))
+        (λ o. if_done o (create_card (blocks img) img p x k) img)
         a.said
         b.said
         a.image
@@ -38,8 +38,8 @@ module _ {img s s₁ s₂ x₁ x₂ : List ℕ} {p : ℕ} {x : List ℕ} where
   module _ {c : ℕ} where
     pub link_agrees : {r₁ r₂ : Said} → Linked img x₁ s s₁ p x c r₁ → Linked img x₂ s s₂ p x c r₂ → Same r₁ r₂ x₁ x₂ s₁ s₂
     link_agrees a b =
-        same a.opening b.opening (λ o. if_open o (of_acted (link_answer img p x c)) (of_opened o))
-        (λ o. if_open o (link_card (blocks img) img p x c) img)
+        same a.opening b.opening (λ o. if_done o (plain (link_answer img p x c)) (of_opened o))
+        (λ o. if_done o (link_card (blocks img) img p x c) img)
         a.said
         b.said
         a.image
@@ -50,8 +50,8 @@ module _ {img s s₁ s₂ x₁ x₂ : List ℕ} {p : ℕ} {x : List ℕ} where
 
   pub unlink_agrees : {r₁ r₂ : Said} → Unlinked img x₁ s s₁ p x r₁ → Unlinked img x₂ s s₂ p x r₂ → Same r₁ r₂ x₁ x₂ s₁ s₂
   unlink_agrees a b =
-      same a.opening b.opening (λ o. if_open o (of_acted (unlink_answer img p x)) (of_opened o))
-      (λ o. if_open o (unlink_card (blocks img) img p x) img)
+      same a.opening b.opening (λ o. if_done o (plain (unlink_answer img p x)) (of_opened o))
+      (λ o. if_done o (unlink_card (blocks img) img p x) img)
       a.said
       b.said
       a.image
@@ -64,8 +64,8 @@ module _ {img s s₁ s₂ x₁ x₂ : List ℕ} {p : ℕ} {x : List ℕ} where
   module _ {t : ℕ} {new : List ℕ} where
     pub move_agrees : {r₁ r₂ : Said} → Moved img x₁ s s₁ p x t new r₁ → Moved img x₂ s s₂ p x t new r₂ → Same r₁ r₂ x₁ x₂ s₁ s₂
     move_agrees a b =
-        same a.opening b.opening (λ o. if_open o (of_acted (move_answer (blocks img) img p x t new)) (of_opened o))
-        (λ o. if_open o (move_card (blocks img) img p x t new) img)
+        same a.opening b.opening (λ o. if_done o (plain (move_answer (blocks img) img p x t new)) (of_opened o))
+        (λ o. if_done o (move_card (blocks img) img p x t new) img)
         a.said
         b.said
         a.image
@@ -82,7 +82,7 @@ module _ {img x₁ x₂ : List ℕ} {space : ℕ} where
   pub format_c_agrees : {a₁ a₂ : ℕ} → FormattedC img x₁ space a₁ → FormattedC img x₂ space a₂ → (a₁ ≡ a₂) × (x₁ ≡ x₂)
   format_c_agrees a b =
       let q = format_agrees a.call b.call in
-      (a.status_is ∙ ap said_no q.0 ∙ sym b.status_is, q.1)
+      (a.status_is ∙ ap answer_no q.0 ∙ sym b.status_is, q.1)
 
 -- ---- the calls that look
 
@@ -90,7 +90,7 @@ module _ {img x₁ x₂ : List ℕ} {space : ℕ} where
 module _ {img s s₁ s₂ : List ℕ} {p : ℕ} {x : List ℕ} where
   pub find_agrees : {r₁ r₂ : Said} → Found img s s₁ p x r₁ → Found img s s₂ p x r₂ → Same r₁ r₂ img img s₁ s₂
   find_agrees a b =
-      same a.opening b.opening (λ o. if_open o (of_acted (find_answer img p x)) (of_opened o)) (λ o. img) a.said b.said refl refl
+      same a.opening b.opening (λ o. if_done o (numbered (find_answer img p x)) (of_opened o)) (λ o. img) a.said b.said refl refl
 
   pub find_c_agrees : {a₁ a₂ v₁ v₂ : ℕ} → FoundC img s s₁ p x a₁ v₁ → FoundC img s s₂ p x a₂ v₂ → SameC a₁ a₂ v₁ v₂ img img s₁ s₂
   find_c_agrees a b = same_c (find_agrees a.call b.call) a.status_is b.status_is a.number_is b.number_is
@@ -99,8 +99,8 @@ module _ {img s s₁ s₂ : List ℕ} {p : ℕ} {x : List ℕ} where
 module _ {img s s₁ s₂ e₁ e₂ : List ℕ} {p k : ℕ} where
   pub entry_agrees : {r₁ r₂ : Said} → Listed img s s₁ p k r₁ e₁ → Listed img s s₂ p k r₂ e₂ → Same r₁ r₂ e₁ e₂ s₁ s₂
   entry_agrees a b =
-      same a.opening b.opening (λ o. if_open o (of_acted (entry_answer img p k)) (of_opened o))
-      (λ o. if_open o (entry_bytes img p k) no_entry)
+      same a.opening b.opening (λ o. if_done o (plain (entry_answer img p k)) (of_opened o))
+      (λ o. if_done o (entry_bytes img p k) no_entry)
       a.said
       b.said
       a.bytes
@@ -122,12 +122,12 @@ module _ {img s s₁ s₂ : List ℕ} {n k₁ z₁ b₁ l₁ k₂ z₂ b₂ l₂
       → (r₁ ≡ r₂) × SameFour k₁ z₁ b₁ l₁ k₂ z₂ b₂ l₂ s₁ s₂
   metadata_agrees a b =
       let q = agree a.opening b.opening in (
-        by_opening (λ o. if_open o Done (of_opened o)) q.0 a.said b.said,
+        by_opening (λ o. if_done o (Ok 0) (of_opened o)) q.0 a.said b.said,
         record {
-          kind = by_opening (λ o. if_open o (kind img n) 0) q.0 a.kind_is b.kind_is;
-          size = by_opening (λ o. if_open o (size img n) 0) q.0 a.size_is b.size_is;
-          blocks = by_opening (λ o. if_open o (count img n) 0) q.0 a.blocks_is b.blocks_is;
-          links = by_opening (λ o. if_open o (links img n) 0) q.0 a.links_is b.links_is;
+          kind = by_opening (λ o. if_done o (kind img n) 0) q.0 a.kind_is b.kind_is;
+          size = by_opening (λ o. if_done o (size img n) 0) q.0 a.size_is b.size_is;
+          blocks = by_opening (λ o. if_done o (count img n) 0) q.0 a.blocks_is b.blocks_is;
+          links = by_opening (λ o. if_done o (links img n) 0) q.0 a.links_is b.links_is;
           scratch = q.1;
         },
       )
@@ -136,4 +136,4 @@ module _ {img s s₁ s₂ : List ℕ} {n k₁ z₁ b₁ l₁ k₂ z₂ b₂ l₂
       → (a₁ ≡ a₂) × SameFour k₁ z₁ b₁ l₁ k₂ z₂ b₂ l₂ s₁ s₂
   metadata_c_agrees a b =
       let q = metadata_agrees a.call b.call in
-      (a.status_is ∙ ap said_no q.0 ∙ sym b.status_is, q.1)
+      (a.status_is ∙ ap answer_no q.0 ∙ sym b.status_is, q.1)

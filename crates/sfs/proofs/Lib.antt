@@ -1,2 +1,3 @@
 pub mod Agree
 pub mod AgreeDirs
+pub mod Bytes

@@ -3,7 +3,7 @@ ghost use Rattle.std.specs.Prelude.{◌≡◌};
 ghost use Rattle.cache_order.specs.Order.{started};
 ghost use Rattle.cache.specs.Calls.{ReadCall, WriteCall, SyncCall};
 
-use cache;
+use call_said;
 
 #[unsafe(no_mangle)]
 pub extern "C" fn sfs_cache_start(slots: &mut [u32])
@@ -23,7 +23,7 @@ pub extern "C" fn sfs_cache_read(
     ensures { ReadCall slots.old slots.new bytes.old bytes.new device.old
         device.new block buf.old buf.new result }
 {
-    cache::read(device, bytes, slots, block, buf)
+    call_said::number_of(cache::read(device, bytes, slots, block, buf))
 }
 
 #[unsafe(no_mangle)]
@@ -37,12 +37,12 @@ pub extern "C" fn sfs_cache_write(
     ensures { WriteCall slots.old slots.new bytes.old bytes.new device.old
         device.new block buf.now result }
 {
-    cache::write(device, bytes, slots, block, buf)
+    call_said::number_of(cache::write(device, bytes, slots, block, buf))
 }
 
 #[unsafe(no_mangle)]
 pub extern "C" fn sfs_cache_sync(device: &mut [u8], bytes: &[u8], slots: &mut [u32]) -> u32
     ensures { SyncCall slots.old slots.new bytes.now device.old device.new result }
 {
-    cache::sync(device, bytes, slots)
+    call_said::number_of(cache::sync(device, bytes, slots))
 }

@@ -26,7 +26,7 @@ pub extern "C" fn sfs_create(
         dir name.now kind result number.new }
 {
     let r = call_dirs::create(image, scratch, INodeId(dir), name, kind);
-    *number = call_said::value_of(r);
+    *number = call_said::inode_of(r);
     call_said::number_of(r)
 }
 

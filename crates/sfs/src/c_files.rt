@@ -18,7 +18,7 @@ pub extern "C" fn sfs_read(
         inode offset result count.new }
 {
     let r = call_files::read(image, scratch, INodeId(inode), offset, buf);
-    *count = call_said::value_of(r);
+    *count = call_said::count_of(r);
     call_said::number_of(r)
 }
 
@@ -35,7 +35,7 @@ pub extern "C" fn sfs_write(
         inode offset result count.new }
 {
     let r = call_files::write(image, scratch, INodeId(inode), offset, src);
-    *count = call_said::value_of(r);
+    *count = call_said::count_of(r);
     call_said::number_of(r)
 }
 

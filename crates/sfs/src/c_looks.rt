@@ -5,7 +5,7 @@ ghost use Rattle.sfs.specs.DirCallsC.{FoundC, ListedC, DescribedC};
 
 use call_looks;
 use call_said;
-use card_layout::{DIRENT_SIZE, INodeId, entry};
+use card_layout::{DIRENT_SIZE, INodeId, entry, inode};
 
 #[unsafe(no_mangle)]
 pub extern "C" fn sfs_metadata(
@@ -20,12 +20,11 @@ pub extern "C" fn sfs_metadata(
     ensures { DescribedC image.now scratch.old scratch.new
         inode result kind.new size.new blocks.new links.new }
 {
-    let d = call_looks::metadata(image, scratch, INodeId(inode));
-    *kind = d.kind;
-    *size = d.size;
-    *blocks = d.blocks;
-    *links = d.links;
-    let r = d.said;
+    let r = call_looks::metadata(image, scratch, INodeId(inode));
+    *kind = r.map_or(0, |m| inode::kind_no(m.kind) as u32);
+    *size = r.map_or(0, |m| m.size);
+    *blocks = r.map_or(0, |m| m.blocks);
+    *links = r.map_or(0, |m| m.links as u32);
     call_said::number_of(r)
 }
 
@@ -40,7 +39,7 @@ pub extern "C" fn sfs_find(
     ensures { FoundC image.now scratch.old scratch.new dir name.now result number.new }
 {
     let r = call_looks::find(image, scratch, INodeId(dir), name);
-    *number = call_said::value_of(r);
+    *number = call_said::inode_of(r);
     call_said::number_of(r)
 }
 
@@ -54,10 +53,8 @@ pub extern "C" fn sfs_entry(
 ) -> u32
     ensures { ListedC image.now scratch.old scratch.new dir index result bytes.new }
 {
-    let l = call_looks::entry(image, scratch, INodeId(dir), index);
-    let b = l.entry;
-    *bytes = b;
-    let r = l.said;
+    let r = call_looks::entry(image, scratch, INodeId(dir), index);
+    *bytes = r.unwrap_or([0; DIRENT_SIZE]);
     call_said::number_of(r)
 }
 

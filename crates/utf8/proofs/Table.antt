@@ -6,15 +6,16 @@ use mathlib.Core.Bool.{Bool, true, false}
 use mathlib.Core.List.{List, [], ◌∷◌, ◌++◌}
 use native.Mathlib.Omega.{arith}
 use native.Mathlib.Decide.{dec_lt, ℕ_discrete}
-use borrow.Author.Tests.{eqb-true, eqb-false, lt-ltb}
+use borrow.Author.Tests.{eqb-true, eqb-false, lt-ltb, le-ltb}
 use lib.Dec.{eqb, ltb}
 use lib.ListN.{length, drop, length-append, length-drop}
+use Rattle.std.proofs.lemmas.List.{get_or_past}
+use Rattle.std.proofs.lemmas.Bool.Decides.{nat_tests}
 use Rattle.words.specs.Words.{byte, pick}
 use Rattle.utf8.specs.Utf8.{Scalar, six, encoding}
 use Rattle.utf8.specs.Inner as table
 use Rattle.utf8.specs.Inner.{low, high, sequence, taken}
-use Rattle.utf8.proofs.Encoding.{Sized, one, two, three, four, sized, encoding-one, encoding-two, encoding-three, encoding-four}
-use Rattle.utf8.proofs.Encoding.{encoding_front, some_bytes}
+use Rattle.utf8.proofs.Encoding.{Sized, one, two, three, four, sized, encoding-one, encoding-two, encoding-three, encoding-four, encoding_front, some_bytes}
 use Rattle.utf8.proofs.Tests.{Told, holds, fails, ltb_told, and_told, within_told}
 
 -- ---- the rows of the table
@@ -293,7 +294,7 @@ taken_within x = go (ℕ_discrete (taken x) 0)
         omega (arith, k.size, ap length k.is, length-append (encoding k.number) (drop (taken x) x), length-drop (taken x) x)
 
 -- what is taken by the tests of the bytes
-pub taken_rows : (x : List ℕ) → 0 < length x → (p q r t : Bool) → ltb (byte x 0) 0x80 ≡ p → table.two (byte x 0) (byte x 1) ≡ q
+taken_rows : (x : List ℕ) → 0 < length x → (p q r t : Bool) → ltb (byte x 0) 0x80 ≡ p → table.two (byte x 0) (byte x 1) ≡ q
     → table.three (byte x 0) (byte x 1) (byte x 2) ≡ r → table.four (byte x 0) (byte x 1) (byte x 2) (byte x 3) ≡ t
     → pick p 1 (pick q 2 (pick r 3 (pick t 4 0))) ≡ taken x
 unfolding sequence
@@ -302,3 +303,35 @@ taken_rows (a ∷ s) h p q r t e f g k = rw (e, f, g, k)
 
 pub taken_small : (x : List ℕ) → 0 < length x → byte x 0 < 0x80 → taken x ≡ 1
 taken_small x h l = sym (taken_rows x h true _ _ _ (lt-ltb (byte x 0) 0x80 l) refl refl refl)
+
+pub taken_two : (x : List ℕ) → 2 ≤ length x → 0x80 ≤ byte x 0 → table.two (byte x 0) (byte x 1) ≡ true → taken x ≡ 2
+taken_two x h l e = sym (taken_rows x (omega arith) false true _ _ (le-ltb (byte x 0) 0x80 l) e refl refl)
+
+pub taken_three : (x : List ℕ) → 3 ≤ length x → 0x80 ≤ byte x 0 → table.two (byte x 0) (byte x 1) ≡ false
+    → table.three (byte x 0) (byte x 1) (byte x 2) ≡ true → taken x ≡ 3
+taken_three x h l e f = sym (taken_rows x (omega arith) false false true _ (le-ltb (byte x 0) 0x80 l) e f refl)
+
+pub taken_four : (x : List ℕ) → 4 ≤ length x → 0x80 ≤ byte x 0 → table.two (byte x 0) (byte x 1) ≡ false
+    → table.three (byte x 0) (byte x 1) (byte x 2) ≡ false → table.four (byte x 0) (byte x 1) (byte x 2) (byte x 3) ≡ true → taken x ≡ 4
+taken_four x h l e f g = sym (taken_rows x (omega arith) false false false true (le-ltb (byte x 0) 0x80 l) e f g)
+
+pub taken_none : (x : List ℕ) → 0x80 ≤ byte x 0 → table.two (byte x 0) (byte x 1) ≡ false → table.three (byte x 0) (byte x 1) (byte x 2) ≡ false
+    → table.four (byte x 0) (byte x 1) (byte x 2) (byte x 3) ≡ false → taken x ≡ 0
+taken_none [] l e f g = refl
+taken_none (a ∷ s) l e f g = sym (taken_rows (a ∷ s) (omega arith) false false false false (le-ltb a 0x80 l) e f g)
+
+-- a byte past the end counts as 0, which is no tail
+pub short_two : (x : List ℕ) → length x < 2 → table.two (byte x 0) (byte x 1) ≡ false
+unfolding table.two
+short_two x h = let e : byte x 1 ≡ 0 = get_or_past x 1 0 (omega arith) in grind (arith, nat_tests)
+
+pub short_three : (x : List ℕ) → length x < 3 → table.three (byte x 0) (byte x 1) (byte x 2) ≡ false
+unfolding table.three
+short_three x h = let e : byte x 2 ≡ 0 = get_or_past x 2 0 (omega arith) in grind (arith, nat_tests)
+
+pub short_four : (x : List ℕ) → length x < 4 → table.four (byte x 0) (byte x 1) (byte x 2) (byte x 3) ≡ false
+unfolding table.four
+short_four x h = let e : byte x 3 ≡ 0 = get_or_past x 3 0 (omega arith) in grind (arith, nat_tests)
+
+-- what `taken` answers by the tests that it makes
+pub ruleset by_rows = (tt, taken_small, taken_two, taken_three, taken_four, taken_none, short_two, short_three, short_four)

@@ -31,12 +31,5 @@ and_told (holds a) (holds b) = holds (a, b)
 and_told (holds a) (fails b) = fails (λ h. b h.1)
 and_told (fails a) b = fails (λ h. a h.0)
 
--- the answer of a test that is made only where another holds
-pub and_on : (p q : Bool) {r : Bool} → p ≡ true → r ≡ q → r ≡ (p && q)
-and_on p q e f = rw e f
-
-pub and_off : (p q : Bool) → p ≡ false → false ≡ (p && q)
-and_off p q e = rw e
-
 pub within_told : (lo hi b : ℕ) → Told ((lo ≤ b) × (b ≤ hi)) (within lo hi b)
 within_told lo hi b = and_told (leb_told lo b) (leb_told b hi)

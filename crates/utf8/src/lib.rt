@@ -1,124 +1,82 @@
 // Whether bytes are UTF-8 (RFC 3629).
 #![tactic(auto)]
 
-ghost use Rattle.std.specs.Prelude.{◌≡◌, ◌+◌, ◌≤◌, ◌<◌, length};
-ghost use Rattle.words.specs.Words.{byte};
+ghost use Rattle.std.specs.Prelude.{◌≡◌, ◌+◌, ◌≤◌, ◌<◌, length, MatchOption};
 ghost use Rattle.words.specs.Inner.{Tells};
 ghost use Rattle.utf8.specs.Utf8.{Utf8};
-ghost use Rattle.utf8.specs.Inner.{within, tail, low, high, second, two, three, four, taken, Ascii, Passed};
+ghost use Rattle.utf8.specs.Inner.{tail, low, high, second, two, three, four, taken, Ascii, Passed};
+
+use words::Number;
 
 // ---- The table of section 4.
-
-fn within(lo: u8, hi: u8, b: u8) -> bool
-    ensures { result ≡ within lo hi b }
-{
-    if b < lo {
-        return false;
-    }
-    b <= hi
-}
 
 fn tail(b: u8) -> bool
     ensures { result ≡ tail b }
 {
-    within(0x80, 0xBF, b)
+    matches!(b, 0x80..=0xBF)
 }
 
+#[tactic(auto, unfolding(crate::specs::Inner::low))]
 fn low(a: u8) -> u8
     ensures { result ≡ low a }
 {
-    if a == 0xE0 {
-        return 0xA0;
+    match a {
+        0xE0 => 0xA0,
+        0xF0 => 0x90,
+        _ => 0x80,
     }
-    if a == 0xF0 {
-        return 0x90;
-    }
-    0x80
 }
 
+#[tactic(auto, unfolding(crate::specs::Inner::high))]
 fn high(a: u8) -> u8
     ensures { result ≡ high a }
 {
-    if a == 0xED {
-        return 0x9F;
+    match a {
+        0xED => 0x9F,
+        0xF4 => 0x8F,
+        _ => 0xBF,
     }
-    if a == 0xF4 {
-        return 0x8F;
-    }
-    0xBF
 }
 
 fn second(a: u8, b: u8) -> bool
     ensures { result ≡ second a b }
 {
-    within(low(a), high(a), b)
+    (low(a)..=high(a)).contains(&b)
 }
 
+#[tactic(auto, unfolding(crate::specs::Inner::two))]
 fn two(a: u8, b: u8) -> bool
     ensures { result ≡ two a b }
 {
-    if within(0xC2, 0xDF, a) {
-        return tail(b);
-    }
-    false
+    matches!(a, 0xC2..=0xDF) && tail(b)
 }
 
+#[tactic(auto, unfolding(crate::specs::Inner::three))]
 fn three(a: u8, b: u8, c: u8) -> bool
     ensures { result ≡ three a b c }
 {
-    if within(0xE0, 0xEF, a) {
-        if second(a, b) {
-            return tail(c);
-        }
-    }
-    false
+    matches!(a, 0xE0..=0xEF) && second(a, b) && tail(c)
 }
 
+#[tactic(auto, unfolding(crate::specs::Inner::four))]
 fn four(a: u8, b: u8, c: u8, d: u8) -> bool
     ensures { result ≡ four a b c d }
 {
-    if within(0xF0, 0xF4, a) {
-        if second(a, b) {
-            if tail(c) {
-                return tail(d);
-            }
-        }
-    }
-    false
+    matches!(a, 0xF0..=0xF4) && second(a, b) && tail(c) && tail(d)
 }
 
-// The byte at k, 0 past the end.
-fn at(x: &[u8], k: usize) -> u8
-    ensures { result ≡ byte x.now k }
+// How many bytes the sequence at the front takes, where there is one.
+#[tactic(auto, using(crate::proofs::Table::by_rows))]
+fn taken(x: &[u8]) -> Option<usize>
+    ensures { MatchOption result (taken x.now ≡ 0) (λ k. (taken x.now ≡ k) × (0 < k) × (k ≤ length x.now)) }
 {
-    if k < x.len() {
-        return x[k];
+    match x {
+        [a, ..] if *a < 0x80 => Some(1),
+        [a, b, ..] if two(*a, *b) => Some(2),
+        [a, b, c, ..] if three(*a, *b, *c) => Some(3),
+        [a, b, c, d, ..] if four(*a, *b, *c, *d) => Some(4),
+        _ => None,
     }
-    0
-}
-
-// How many bytes the sequence at the front takes: 0 where there is none.
-fn taken(x: &[u8]) -> usize
-    requires { 0 < length x.now }
-    ensures { result ≡ taken x.now }
-{
-    let a = x[0];
-    if a < 0x80 {
-        return 1;
-    }
-    let b = at(x, 1);
-    if two(a, b) {
-        return 2;
-    }
-    let c = at(x, 2);
-    if three(a, b, c) {
-        return 3;
-    }
-    let d = at(x, 3);
-    if four(a, b, c, d) {
-        return 4;
-    }
-    0
 }
 
 // ---- Bytes below 128, eight at a time.
@@ -127,7 +85,7 @@ fn ascii(x: &[u8], at: usize) -> bool
     requires { at + 8 ≤ length x.now }
     ensures { Tells result (Ascii x.now at (at + 8)) }
 {
-    words::get64(x, at) & 0x8080_8080_8080_8080 == 0
+    u64::get(x, at) & 0x8080_8080_8080_8080 == 0
 }
 
 // Passes groups of eight from `from` on. Where less than a group is left, the last eight bytes tell of it.
@@ -141,6 +99,7 @@ fn pass(x: &[u8], from: usize) -> usize
     }
     let last = n - 8;
     let mut i = from;
+    // No `for` over steps of eight: the place where it ends is wanted after it.
     while i <= last && ascii(x, i) {
         i += 8;
     }
@@ -154,11 +113,11 @@ pub fn valid(x: &[u8]) -> bool
     ensures { Tells result (Utf8 x.now) }
 {
     let mut i = pass(x, 0);
+    // No `for`: each turn goes on by as many bytes as it takes.
     while i < x.len() {
-        let k = taken(&x[i..]);
-        if k == 0 {
+        let Some(k) = taken(&x[i..]) else {
             return false;
-        }
+        };
         i = pass(x, i + k);
     }
     true

@@ -1,16 +1,19 @@
 -- A part of a list that is read or written through `&s[a..a + k]`, said of the whole.
 use Prim.Native.Nat.{ℕ, zero, suc, ◌+◌, ◌-◌, ◌*◌, ◌/◌, ◌%◌, ◌<◌, ◌≤◌}
-use mathlib.Core.Path.{◌≡◌, refl, ap, ◌∙◌}
+use mathlib.Core.Path.{◌≡◌, refl, sym, ap, ◌∙◌}
 use mathlib.Core.Logic.{◌≢◌}
 use mathlib.Core.List.{List, ◌++◌}
 use native.Mathlib.Omega.{arith}
 use native.Mathlib.Decide.{dec_lt}
-use lib.ListN.{length, get_or, set, take, drop, length-take, length-drop, get_or-append}
+use lib.ListN.{length, get_or, set, take, drop, replicate, length-take, length-drop, length-replicate, get_or-append, get_or-replicate}
 use lib.Seq.{get_or-take, get_or-drop, drop-set-add, take-set-lt, take-set-le, drop-set-lt, drop_at, take_at, length-take-le}
 use borrow.Rule.Slice.PartMut.{mid_of, put_mid, post_of, put_same}
-use Rattle.words.specs.Words.{num, put_num}
+use Rattle.std.proofs.lemmas.Slice.{put_mid-paste}
+use Rattle.words.specs.Words.{byte, num, put_num}
+use Rattle.words.specs.Runs.{puts, copied, zeroed}
 use Rattle.words.specs.Inner.{Apart}
 use Rattle.words.proofs.Numbers.{num_out, num_frame}
+use Rattle.words.proofs.Runs.{puts_paste}
 
 pub length_mid : (a k : ℕ) (xs : List ℕ) → a + k ≤ length xs → length (mid_of a k xs) ≡ k
 length_mid a k xs h = simp (length-take, length-drop) (omega arith)
@@ -80,3 +83,23 @@ num_before n a k xs ys at h l =
     (λ i p q. let g : i < length (take a xs) = rw (length-take-le a xs l) (omega arith) in
     let f : i < a = omega arith in
     get_or-append (take a xs) (ys ++ post_of a k xs) 0 i g ∙ get_or-take a xs i 0 f)
+
+-- a part that was put by a copy or by a fill: a run of stores
+module _ (d : List ℕ) (at n : ℕ) (l : at + n ≤ length d) where
+  put_mid-run : (f : ℕ → ℕ) (ys : List ℕ) → length ys ≡ n → ((k : ℕ) → k < n → f k ≡ byte ys k) → put_mid at (at + n - at) d ys ≡ puts d (λ k. at + k) f n
+  put_mid-run f ys e h =
+      let k : n ≡ at + n - at = omega arith in
+      let m : n ≤ length ys = omega arith in
+      put_mid-paste at (at + n - at) d ys ys n refl k (sym e) ∙ sym (puts_paste d at f ys n l m h)
+
+  pub put_mid-copied : (s : List ℕ) (from : ℕ) → from + n ≤ length s → put_mid at (at + n - at) d (mid_of from (from + n - from) s) ≡ copied d at s from n
+  unfolding copied
+  put_mid-copied s from m =
+      let k : from + n - from ≡ n = omega arith in
+      put_mid-run (λ k. byte s (from + k)) (mid_of from (from + n - from) s) (rw k (length_mid from n s m))
+      (λ i h. sym (byte_mid from (from + n - from) s i (omega arith)))
+
+  pub put_mid-zeroed : (m : ℕ) → m ≡ n → put_mid at (at + n - at) d (replicate m 0) ≡ zeroed d at n
+  unfolding zeroed
+  put_mid-zeroed m e =
+      put_mid-run (λ k. 0) (replicate m 0) (length-replicate m 0 ∙ e) (λ i h. sym (get_or-replicate m i 0 0 (omega arith)))

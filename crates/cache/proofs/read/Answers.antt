@@ -1,23 +1,17 @@
 -- `cache::read` meets its contract, by what its parts leave (`read_made`). Assumes nothing.
 use mathlib.Core.Path.{refl}
-use native.Mathlib.Omega.{arith}
-use Rattle.words.proofs.Answers.{when-not-true, when_not_false}
 use Rattle.cache.specs.Calls.Call.{done, refused}
-use Rattle.cache_order.proofs.Laws.{slot_below}
-use Rattle.cache.proofs.Laws.{read_made}
+use Rattle.cache.proofs.Laws.{used_below, read_made}
 use Rattle.cache.proofs.read.Goals as goal
 
 pub returns-then-not-fit : goal.returns-then-not-fit
-returns-then-not-fit c = refused (when-not-true c.fit.result _ _ c.if-not-fit.true-raw c.fit.ensures) (refl, refl, refl, refl)
+returns-then-not-fit c = refused c.if-not-fit.ensures (refl, refl, refl, refl)
 
 pub fetch-requires : goal.fetch-requires
-fetch-requires c = let a = c.args in let h = when_not_false c.fit.result _ _ c.if-not-fit.false-raw c.fit.ensures in
-    let z = h.sound.sizes.two in (h, rw c.slot_for-i.ensures (slot_below a.slots.now a.block (omega arith)))
+fetch-requires c = let h = c.if-not-fit.ensures in (h, used_below _ _ _ _ _ _ h c.slot_for-i.ensures)
 
 pub enter_read-requires : goal.enter_read-requires
-enter_read-requires c = let a = c.args in let h = when_not_false c.fit.result _ _ c.if-not-fit.false-raw c.fit.ensures in
-    let z = h.sound.sizes.two in rw c.slot_for-i.ensures (slot_below a.slots.now a.block (omega arith))
+enter_read-requires c = used_below _ _ _ _ _ _ c.if-not-fit.ensures c.slot_for-i.ensures
 
 pub returns : goal.returns
-returns c = done (when_not_false c.fit.result _ _ c.if-not-fit.false-raw c.fit.ensures)
-    (read_made _ _ _ _ _ _ _ _ _ _ c.slot_for-i.ensures c.enter_read.ensures c.fetch.ensures)
+returns c = done c.if-not-fit.ensures (read_made _ _ _ _ _ _ _ _ _ _ c.slot_for-i.ensures c.enter_read.ensures c.fetch.ensures)

@@ -1,12 +1,10 @@
--- `cache_slots::touch` meets its contract: `find` leaves the slots as they were, and on a hit they are what `visit` says. Assumes nothing.
+-- `cache_slots::touch` meets its contract. Assumes nothing.
 use Rattle.std.proofs.Common.{◌∙◌}
 use Rattle.cache_slots.proofs.Laws.{touched_hit, touched_miss}
 use Rattle.cache_slots.proofs.touch.Goals as goal
 
-pub returns-then-i-slots : goal.returns-then-i-slots
-returns-then-i-slots c =
-    (c.find-i.ensures, c.visit.ensures ∙ touched_hit c.args.slots.now c.args.block c.find-i.result c.find-i.ensures c.if-i-slots.true)
+pub returns-in_err-i-clause-slots : goal.returns-in_err-i-clause-slots
+returns-in_err-i-clause-slots c = touched_miss _ _ c.in_err-i.ensures
 
-pub returns-else-i-slots : goal.returns-else-i-slots
-returns-else-i-slots c =
-    (c.find-i.ensures, touched_miss c.args.slots.now c.args.block c.find-i.result c.find-i.ensures c.if-i-slots.false)
+pub returns-clause-slots : goal.returns-clause-slots
+returns-clause-slots c = c.visit.ensures ∙ touched_hit _ _ _ c.in_ok-i.ensures

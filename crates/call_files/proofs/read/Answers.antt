@@ -2,7 +2,7 @@
 use Rattle.call_said.proofs.Opened.{ready, ready_sizes, ready_below}
 use Rattle.call_files.proofs.read.Goals as goal
 
-pub read-r-requires : goal.read-r-requires
-read-r-requires c =
-    let r = ready c.in-Open.c c.open_card-o.ensures c.in-Open.is in
+pub read-requires : goal.read-requires
+read-requires c =
+    let r = ready c.in_ok-c.c c.open_card.ensures c.in_ok-c.was in
     (ready_sizes r, ready_below r r.first)

@@ -2,7 +2,7 @@
 use Rattle.call_said.proofs.Opened.{ready, ready_sizes, ready_below}
 use Rattle.call_files.proofs.resize.Goals as goal
 
-pub resize-r-requires : goal.resize-r-requires
-resize-r-requires c =
-    let r = ready c.in-Open.c c.open_card-o.ensures c.in-Open.is in
+pub resize-requires : goal.resize-requires
+resize-requires c =
+    let r = ready c.in_ok-c.c c.open_card.ensures c.in_ok-c.was in
     (ready_sizes r, ready_below r r.first)

@@ -2,7 +2,7 @@
 use Rattle.call_said.proofs.Opened.{ready, ready_sizes, ready_below}
 use Rattle.call_files.proofs.write.Goals as goal
 
-pub write-r-requires : goal.write-r-requires
-write-r-requires c =
-    let r = ready c.in-Open.c c.open_card-o.ensures c.in-Open.is in
+pub write-requires : goal.write-requires
+write-requires c =
+    let r = ready c.in_ok-c.c c.open_card.ensures c.in_ok-c.was in
     (ready_sizes r, ready_below r r.first)

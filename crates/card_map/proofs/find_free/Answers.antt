@@ -15,8 +15,8 @@ returns-then-b-n c =
     lowest_within img a.from.0 n (8 * ((n + 7) / 8)) (omega arith) (omega arith) (omega (arith, s.ensures)) ∙ sym s.ensures in
     sym (ap (found_below n) e ∙ found_below_some n s.result.0 c.if-b-n.true)
 
-pub returns : goal.returns
-returns c =
+pub returns-else-b-n : goal.returns-else-b-n
+returns-else-b-n c =
     let a = c.args in
     let n = a.n in
     let img = a.image.now in

@@ -57,11 +57,11 @@ module _ (img : List ℕ) (i k : ℕ) (small : byte img (8192 + i) < 256) where
       let p : 8 * i + j ≡ b = omega arith in
       omega (arith, e, ap (map_bit img) p, bit-from j (omega arith) (omega arith), low.1 j (omega arith))
 
-pub search-preserved-then-get64-eq0 : goal.search-preserved-then-get64-eq0
-search-preserved-then-get64-eq0 c =
+pub search-preserved-then-get-eq0 : goal.search-preserved-then-get-eq0
+search-preserved-then-get-eq0 c =
     let s = c.search in
     let a = c.args in
-    let e = group_clear a.image.now s.i (sym c.get64.ensures ∙ eqb-true c.get64.result 0 c.if-get64-eq0.true-raw) in (
+    let e = group_clear a.image.now s.i (sym c.get.ensures ∙ eqb-true c.get.result 0 c.if-get-eq0.true-raw) in (
       omega arith,
       omega arith,
       omega arith,

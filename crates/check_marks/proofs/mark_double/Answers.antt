@@ -3,7 +3,6 @@
 use Prim.Native.Nat.{◌*◌, ◌<◌}
 use native.Mathlib.Omega.{arith}
 use Rattle.card_rules.proofs.Views.{seconds_some}
-use Rattle.words.proofs.Answers.{when_not_false}
 use Rattle.check_marks.proofs.Marking.{marks_none, run_in}
 use Rattle.check_marks.proofs.Uses.{double_none}
 use Rattle.check_marks.proofs.mark_double.Goals as goal
@@ -22,7 +21,7 @@ mark_run-requires c =
 pub mark_level-requires : goal.mark_level-requires
 mark_level-requires c =
     let a = c.args in
-    let m = when_not_false c.mark_run.result _ _ c.if-not-mark_run.false-raw c.mark_run.ensures in (
+    let m = c.if-mark_run.ensures in (
       record { few = omega (arith, m.long); card = omega (arith, m.long) },
       omega (arith, c.seconds_of-k.ensures, seconds_some a.c (omega arith)),
       λ l. omega (arith, m.long, c.requires.2 (omega arith)),

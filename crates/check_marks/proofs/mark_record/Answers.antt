@@ -6,10 +6,11 @@ use native.Mathlib.Omega.{arith}
 use lib.Dec.{ltb}
 use Rattle.words.specs.Words.{pick}
 use Rattle.words.specs.Sums.{δ}
+use Rattle.words.proofs.Answers.{when_true, when_false}
 use Rattle.check_marks.specs.Inner.{run_use}
-use Rattle.words.proofs.Answers.{when-not-true, when_not_false}
-use Rattle.check_marks.proofs.Marking.{marks_one, marks_join, clash_one, clash_after, ran, not_ran}
+use Rattle.check_marks.proofs.Marking.{marks_one, clash_one, clash_le, Did, did_after, did_run}
 use Rattle.check_marks.proofs.mark_record.Goals as goal
+use Rattle.check_marks.proofs.mark_record.Goals.{then-mark, else-mark, then-mark_run, else-mark_run}
 
 -- the parts of the record: the own block and the direct slots, and then the indirect block too
 abbrev front : List ℕ → ℕ → ℕ → ℕ → ℕ
@@ -18,43 +19,49 @@ front img n c b = δ n b + run_use img (4096 * n + 12) (min c 12) b
 abbrev middle : List ℕ → ℕ → ℕ → ℕ → ℕ
 middle img n c b = front img n c b + run_use img (4096 * n + 60) (pick (ltb c 12) 0 1) b
 
-pub returns-then-not-mark : goal.returns-then-not-mark
-returns-then-not-mark c = clash_one _ _ (when-not-true c.mark.result _ _ c.if-not-mark.true-raw c.mark.ensures) (λ b. omega arith)
-
-pub returns-then-not-mark_run : goal.returns-then-not-mark_run
-returns-then-not-mark_run c =
+pub returns-then-mark_run-2 : goal.returns-then-mark_run-2
+returns-then-mark_run-2 c =
     let a = c.args in
-    let m = marks_one _ (when_not_false c.mark.result _ _ c.if-not-mark.false-raw c.mark.ensures) in
-    let k = not_ran a.image.now _ _ (4096 * a.n.0 + 12) _ _ c.mark_run.result c.least.ensures c.mark_run.ensures c.if-not-mark_run.true-raw in
-    clash_after _ _ _ m k (λ b. omega arith)
+    let p = c.if-mark in
+    let q = c.if-mark_run in
+    let j : Did p.value a.u.now p.u (front a.image.now a.n.0 a.c) =
+    elim p.branch [
+      | then-mark w ↦
+          rw (w.value-is, w.u-is)
+          (did_after _ _ _ _ _ _ _ (marks_one _ w.if-mark.ensures) (λ b. refl)
+          (did_run a.image.now _ _ (4096 * a.n.0 + 12) _ _ _ w.min.ensures w.mark_run.ensures))
+      | else-mark w ↦ rw (w.value-is, w.if-mark.false) (clash_one _ _ w.if-mark.ensures (λ b. omega arith))
+    ] in
+    let k : Did q.value a.u.now q.u (middle a.image.now a.n.0 a.c) =
+    elim q.branch [
+      | then-mark_run w ↦
+          rw (w.value-is, w.u-is)
+          (did_after _ _ _ _ _ _ _ (when_true p.value _ _ w.if-mark_run.true j) (λ b. refl)
+          (did_run a.image.now _ _ (4096 * a.n.0 + 60) _ _ _ w.one_from.ensures w.mark_run-then-mark_run.ensures))
+      | else-mark_run w ↦ rw (w.value-is, w.if-mark_run.false) (clash_le _ _ (when_false p.value _ _ w.if-mark_run.false j) (λ b. omega arith))
+    ] in
+    did_after _ _ _ _ _ _ _ (when_true q.value _ _ c.if-mark_run-2.true k) (λ b. refl)
+    (did_run a.image.now _ _ (4096 * a.n.0 + 64) _ _ _ c.one_from-then-mark_run-2.ensures c.mark_run-then-mark_run-2.ensures)
 
-pub returns-then-not-mark_run-2 : goal.returns-then-not-mark_run-2
-returns-then-not-mark_run-2 c =
+pub returns-else-mark_run-2 : goal.returns-else-mark_run-2
+returns-else-mark_run-2 c =
     let a = c.args in
-    let m = marks_one _ (when_not_false c.mark.result _ _ c.if-not-mark.false-raw c.mark.ensures) in
-    let r = ran a.image.now _ _ (4096 * a.n.0 + 12) _ _ c.mark_run.result c.least.ensures c.mark_run.ensures c.if-not-mark_run.false-raw in
-    let j = marks_join _ _ (front a.image.now a.n.0 a.c) m r (λ b. refl) in
-    let k = not_ran a.image.now _ _ (4096 * a.n.0 + 60) _ _ c.mark_run-2.result c.one_from.ensures c.mark_run-2.ensures c.if-not-mark_run-2.true-raw in
-    clash_after _ _ _ j k (λ b. omega arith)
-
-pub returns-then-not-mark_run-3 : goal.returns-then-not-mark_run-3
-returns-then-not-mark_run-3 c =
-    let a = c.args in
-    let m = marks_one _ (when_not_false c.mark.result _ _ c.if-not-mark.false-raw c.mark.ensures) in
-    let r = ran a.image.now _ _ (4096 * a.n.0 + 12) _ _ c.mark_run.result c.least.ensures c.mark_run.ensures c.if-not-mark_run.false-raw in
-    let j = marks_join _ _ (front a.image.now a.n.0 a.c) m r (λ b. refl) in
-    let r2 = ran a.image.now _ _ (4096 * a.n.0 + 60) _ _ c.mark_run-2.result c.one_from.ensures c.mark_run-2.ensures c.if-not-mark_run-2.false-raw in
-    let j2 = marks_join _ _ (middle a.image.now a.n.0 a.c) j r2 (λ b. refl) in
-    let k = not_ran a.image.now _ _ (4096 * a.n.0 + 64) _ _ c.mark_run-3.result c.one_from-2.ensures c.mark_run-3.ensures c.if-not-mark_run-3.true-raw in
-    clash_after _ _ _ j2 k (λ b. omega arith)
-
-pub returns : goal.returns
-returns c =
-    let a = c.args in
-    let m = marks_one _ (when_not_false c.mark.result _ _ c.if-not-mark.false-raw c.mark.ensures) in
-    let r = ran a.image.now _ _ (4096 * a.n.0 + 12) _ _ c.mark_run.result c.least.ensures c.mark_run.ensures c.if-not-mark_run.false-raw in
-    let j = marks_join _ _ (front a.image.now a.n.0 a.c) m r (λ b. refl) in
-    let r2 = ran a.image.now _ _ (4096 * a.n.0 + 60) _ _ c.mark_run-2.result c.one_from.ensures c.mark_run-2.ensures c.if-not-mark_run-2.false-raw in
-    let j2 = marks_join _ _ (middle a.image.now a.n.0 a.c) j r2 (λ b. refl) in
-    let r3 = ran a.image.now _ _ (4096 * a.n.0 + 64) _ _ c.mark_run-3.result c.one_from-2.ensures c.mark_run-3.ensures c.if-not-mark_run-3.false-raw in
-    marks_join _ _ _ j2 r3 (λ b. refl)
+    let p = c.if-mark in
+    let q = c.if-mark_run in
+    let j : Did p.value a.u.now p.u (front a.image.now a.n.0 a.c) =
+    elim p.branch [
+      | then-mark w ↦
+          rw (w.value-is, w.u-is)
+          (did_after _ _ _ _ _ _ _ (marks_one _ w.if-mark.ensures) (λ b. refl)
+          (did_run a.image.now _ _ (4096 * a.n.0 + 12) _ _ _ w.min.ensures w.mark_run.ensures))
+      | else-mark w ↦ rw (w.value-is, w.if-mark.false) (clash_one _ _ w.if-mark.ensures (λ b. omega arith))
+    ] in
+    let k : Did q.value a.u.now q.u (middle a.image.now a.n.0 a.c) =
+    elim q.branch [
+      | then-mark_run w ↦
+          rw (w.value-is, w.u-is)
+          (did_after _ _ _ _ _ _ _ (when_true p.value _ _ w.if-mark_run.true j) (λ b. refl)
+          (did_run a.image.now _ _ (4096 * a.n.0 + 60) _ _ _ w.one_from.ensures w.mark_run-then-mark_run.ensures))
+      | else-mark_run w ↦ rw (w.value-is, w.if-mark_run.false) (clash_le _ _ (when_false p.value _ _ w.if-mark_run.false j) (λ b. omega arith))
+    ] in
+    rw c.if-mark_run-2.false (clash_le _ _ (when_false q.value _ _ c.if-mark_run-2.false k) (λ b. omega arith))

@@ -1,24 +1,24 @@
 -- `check_marks::take_inode` meets its contract: `owns_head` says what an inode uses in the parts in which it is marked. Assumes nothing.
-use Prim.Native.Nat.{◌+◌, ◌≤◌}
+use Prim.Native.Nat.{ℕ, ◌+◌, ◌≤◌}
 use mathlib.Core.Path.{refl}
+use mathlib.Core.List.{List}
 use native.Mathlib.Omega.{arith}
+use Rattle.card_layout.specs.declared.inode.Head.{Head}
+use Rattle.words.proofs.Answers.{when_true, when_false}
 use Rattle.check_marks.specs.Inner.{record_use, indirect_use}
-use Rattle.words.proofs.Answers.{when-not-true, when_not_false}
-use Rattle.check_marks.proofs.Marking.{marks_join, marked_inside, clash_le, clash_after, did_after}
+use Rattle.check_marks.proofs.Marking.{marked_inside, clash_le, Did, did_after}
 use Rattle.check_marks.proofs.Uses.{owns_head, record_indirect, record_double}
 use Rattle.check_marks.proofs.take_inode.Goals as goal
+use Rattle.check_marks.proofs.take_inode.Goals.{then-mark_record, else-mark_record}
 
-pub returns-then-not-mark_record : goal.returns-then-not-mark_record
-returns-then-not-mark_record c =
-    let a = c.args in
-    let small : a.h.blocks ≤ 1049612 = omega (arith, c.requires.3) in
-    let k = when-not-true c.mark_record.result _ _ c.if-not-mark_record.true-raw c.mark_record.ensures in
-    clash_le _ _ k (λ b. omega (arith, owns_head a.image.now a.n.0 a.h c.requires.2 small b))
+-- what the record and the indirect block name
+abbrev upper : List ℕ → ℕ → Head → ℕ → ℕ
+upper img n h b = record_use img n h.blocks b + indirect_use img h.indirect.0 h.blocks b
 
 pub mark_indirect-requires : goal.mark_indirect-requires
 mark_indirect-requires c =
     let a = c.args in
-    let m = when_not_false c.mark_record.result _ _ c.if-not-mark_record.false-raw c.mark_record.ensures in (
+    let m = c.if-mark_record.ensures in (
       record { few = omega (arith, m.long, c.requires.0.few); card = omega (arith, m.long, c.requires.0.card) },
       λ l.
           omega (
@@ -29,41 +29,51 @@ mark_indirect-requires c =
           ),
     )
 
-pub returns-then-not-mark_indirect : goal.returns-then-not-mark_indirect
-returns-then-not-mark_indirect c =
-    let a = c.args in
-    let small : a.h.blocks ≤ 1049612 = omega (arith, c.requires.3) in
-    let m = when_not_false c.mark_record.result _ _ c.if-not-mark_record.false-raw c.mark_record.ensures in
-    let k = when-not-true c.mark_indirect.result _ _ c.if-not-mark_indirect.true-raw c.mark_indirect.ensures in
-    clash_after _ _ _ m k (λ b. omega (arith, owns_head a.image.now a.n.0 a.h c.requires.2 small b))
-
 pub mark_double-requires : goal.mark_double-requires
 mark_double-requires c =
     let a = c.args in
-    let m = when_not_false c.mark_record.result _ _ c.if-not-mark_record.false-raw c.mark_record.ensures in
-    let p = when_not_false c.mark_indirect.result _ _ c.if-not-mark_indirect.false-raw c.mark_indirect.ensures in (
-      record { few = omega (arith, m.long, p.long, c.requires.0.few); card = omega (arith, m.long, p.long, c.requires.0.card) },
+    let small : a.h.blocks ≤ 1049612 = omega (arith, c.requires.3) in
+    let p = c.if-mark_record in
+    let j : Did p.value a.u.now p.u (upper a.image.now a.n.0 a.h) =
+    elim p.branch [
+      | then-mark_record w ↦ rw (w.value-is, w.u-is) (did_after _ _ _ _ _ _ _ w.if-mark_record.ensures (λ b. refl) w.mark_indirect.ensures)
+      | else-mark_record w ↦ rw (w.value-is, w.if-mark_record.false) (clash_le _ _ w.if-mark_record.ensures (λ b. omega arith))
+    ] in
+    let m = when_true p.value _ _ c.if-mark_indirect.true j in (
+      record { few = omega (arith, m.long, c.requires.0.few); card = omega (arith, m.long, c.requires.0.card) },
       c.requires.3,
       λ l.
           omega (
             arith,
             m.long,
-            p.long,
-            marked_inside (record_use a.image.now a.n.0 a.h.blocks) a.h.db_indirect.0 m
-                (record_double a.image.now a.n.0 a.h.blocks a.h.db_indirect.0 c.requires.2.twofold l),
+            marked_inside (upper a.image.now a.n.0 a.h) a.h.db_indirect.0 m
+                (omega (arith, record_double a.image.now a.n.0 a.h.blocks a.h.db_indirect.0 c.requires.2.twofold l)),
           ),
     )
 
-pub returns : goal.returns
-returns c =
+pub returns-then-mark_indirect : goal.returns-then-mark_indirect
+returns-then-mark_indirect c =
     let a = c.args in
     let small : a.h.blocks ≤ 1049612 = omega (arith, c.requires.3) in
-    let m = when_not_false c.mark_record.result _ _ c.if-not-mark_record.false-raw c.mark_record.ensures in
-    let p = when_not_false c.mark_indirect.result _ _ c.if-not-mark_indirect.false-raw c.mark_indirect.ensures in
-    let j =
-    marks_join _ _
-    (λ b. record_use a.image.now a.n.0 a.h.blocks b + indirect_use a.image.now a.h.indirect.0 a.h.blocks b)
-    m p (λ b. refl) in
-    did_after c.mark_double.result _ _ _ _ _ _ j
+    let p = c.if-mark_record in
+    let j : Did p.value a.u.now p.u (upper a.image.now a.n.0 a.h) =
+    elim p.branch [
+      | then-mark_record w ↦ rw (w.value-is, w.u-is) (did_after _ _ _ _ _ _ _ w.if-mark_record.ensures (λ b. refl) w.mark_indirect.ensures)
+      | else-mark_record w ↦ rw (w.value-is, w.if-mark_record.false) (clash_le _ _ w.if-mark_record.ensures (λ b. omega arith))
+    ] in
+    did_after _ _ _ _ _ _ _ (when_true p.value _ _ c.if-mark_indirect.true j)
     (λ b. owns_head a.image.now a.n.0 a.h c.requires.2 small b)
     c.mark_double.ensures
+
+pub returns-else-mark_indirect : goal.returns-else-mark_indirect
+returns-else-mark_indirect c =
+    let a = c.args in
+    let small : a.h.blocks ≤ 1049612 = omega (arith, c.requires.3) in
+    let p = c.if-mark_record in
+    let j : Did p.value a.u.now p.u (upper a.image.now a.n.0 a.h) =
+    elim p.branch [
+      | then-mark_record w ↦ rw (w.value-is, w.u-is) (did_after _ _ _ _ _ _ _ w.if-mark_record.ensures (λ b. refl) w.mark_indirect.ensures)
+      | else-mark_record w ↦ rw (w.value-is, w.if-mark_record.false) (clash_le _ _ w.if-mark_record.ensures (λ b. omega arith))
+    ] in
+    rw c.if-mark_indirect.false
+    (clash_le _ _ (when_false p.value _ _ c.if-mark_indirect.false j) (λ b. omega (arith, owns_head a.image.now a.n.0 a.h c.requires.2 small b)))

@@ -1,15 +1,16 @@
--- `dir_create::judge_create` meets its contract. The head decides (`create_no_dir`). Assumes nothing.
-use mathlib.Core.Path.{sym, ◌∙◌}
-use native.Mathlib.Omega.{arith}
-use Rattle.dir_answers.proofs.Ready.{readable_ready}
-use Rattle.dir_create.proofs.CreateLaws.{create_no_dir}
+-- `dir_create::judge_create` meets its contract. What it looks at of a whole card is there to be read. Assumes nothing.
+use mathlib.Core.Path.{sym, subst}
+use Rattle.file_blocks.specs.Inner.{Sizes}
+use Rattle.dir_answers.proofs.Ready.{here_ready, sizes_whole}
+use Rattle.dir_answers.proofs.Heads.{head_small, dir_good}
 use Rattle.dir_create.proofs.judge_create.Goals as goal
 
 pub dir_head-requires : goal.dir_head-requires
-dir_head-requires c =
-    omega (arith, (readable_ready c.args.image.now c.requires.0 c.args.p.0 c.requires.1).here)
+dir_head-requires c = here_ready c.args.image.now c.requires.0 c.args.p.0 c.requires.1
 
-pub returns-in-BadKind : goal.returns-in-BadKind
-returns-in-BadKind c =
+pub create_room-requires : goal.create_room-requires
+create_room-requires c =
     let a = c.args in
-    sym (create_no_dir a.nb a.image.now a.p.0 a.x.now a.kind (sym c.dir_head.ensures ∙ c.in-BadKind.is))
+    let p = c.requires in
+    let g = dir_good a.image.now a.p.0 _ (sym c.in_ok-h.ensures) in
+    (subst (Sizes a.image.now) (sym p.2) (sizes_whole a.image.now p.0), head_small a.image.now p.0 a.p.0 p.1 _ g.0)

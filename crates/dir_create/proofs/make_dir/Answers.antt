@@ -16,4 +16,4 @@ make_empty-requires c =
 pub returns : goal.returns
 unfolding made_dir
 returns c =
-    rw (c.append_direntry.ensures, c.set_nlinks.ensures, c.entry_of-e.ensures, c.make_empty.ensures, c.take_first-n.ensures.0, c.take_first-n.ensures.1)
+    rw (c.append_direntry.ensures, c.with_links.ensures.0, c.with_links.ensures.1, c.entry_of-e.ensures, c.make_empty.ensures, c.take_first-n.ensures.0, c.take_first-n.ensures.1)

@@ -1,20 +1,12 @@
--- `dir_move::judge_move` meets its contract. The head of the source decides (`move_no_dir`). Assumes nothing.
-use mathlib.Core.Path.{sym, ap, ◌∙◌}
-use native.Mathlib.Omega.{arith}
-use Rattle.dir_entries.specs.Entries.{where_is}
-use Rattle.dir_answers.specs.Inner.{placed}
-use Rattle.dir_answers.specs.declared.Acted.{Acted}
-use Rattle.dir_answers.proofs.Ready.{readable_ready}
-use Rattle.dir_move.proofs.MoveLaws.{move_no_dir}
+use mathlib.Core.Path.{sym}
+use Rattle.dir_answers.proofs.Heads.{dir_good}
 use Rattle.dir_move.proofs.judge_move.Goals as goal
 
-pub dir_head-requires : goal.dir_head-requires
-dir_head-requires c =
-    omega (arith, (readable_ready c.args.image.now c.requires.0 c.args.p.0 c.requires.1).here)
-
-pub returns-in-BadKind : goal.returns-in-BadKind
-returns-in-BadKind c =
+pub judge_source-requires : goal.judge_source-requires
+judge_source-requires c =
     let a = c.args in
-    let e = move_no_dir a.nb a.image.now a.p.0 a.old.now a.t.0 a.new.now
-    (sym c.dir_head.ensures ∙ c.in-BadKind.is) in
-    sym (ap (λ (j : Acted). placed j (where_is a.image.now a.p.0 a.old.now)) e)
+    let i = a.image.now in
+    let q = c.requires in
+    let s = c.in_ok-dir_head in
+    let t = c.in_ok-dir_head-2 in
+    ((q.0, q.2, dir_good i a.t.0 _ (sym t.ensures)), (q.0, q.1, dir_good i a.p.0 _ (sym s.ensures)))

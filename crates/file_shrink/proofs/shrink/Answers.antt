@@ -1,14 +1,11 @@
--- `file_shrink::shrink` meets its contract. Six steps, one after the other. Assumes nothing.
-use Rattle.file_shrink.proofs.Freeing.{shrunk_steps}
+-- `file_shrink::shrink` meets its contract: six steps, one after the other (`shrunk_by`). Assumes nothing.
+use borrow.Author.Rules.{rules}
+use Rattle.file_shrink.proofs.Freers.{shrunk_by}
 use Rattle.file_shrink.proofs.shrink.Goals as goal
 
 pub returns : goal.returns
 returns c =
     let a = c.args in
-    shrunk_steps a.nb a.n.0 a.d a.b a.a a.image.now _ _ _ _ _ _
-    c.free_direct.ensures
-    c.free_single.ensures
-    c.free_twofold.ensures
-    c.free_indirect.ensures
-    c.free_level.ensures
-    c.free_double.ensures
+    let done = shrunk_by _ a.n.0 a.d a.b a.a _ _ _ _ _ _ c.direct.ensures.walked c.indirect.ensures.walked c.double.ensures.walked
+    c.free_pointer.ensures.freed c.free_level.ensures.freed c.free_pointer-2.ensures.freed in
+    search rules

@@ -11,7 +11,7 @@ returns c =
     let a = c.args in
     let x = a.x.now in
     let bytes : Bytes x = record { below = λ k. omega (arith, c.type_inv.x k) } in
-    let e = c.get64.ensures in
-    when-eqb (bit_and c.get64.result (mask 8)) 0 _ _
+    let e = c.get.ensures in
+    when-eqb (bit_and c.get.result (mask 8)) 0 _ _
     (λ z. mask_ascii 8 x a.at bytes (rw e at z))
     (λ n h. n (rw e (ascii_mask 8 x a.at bytes h)))

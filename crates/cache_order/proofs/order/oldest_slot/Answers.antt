@@ -8,11 +8,11 @@ use Rattle.cache_order.proofs.order.oldest_slot.Goals as goal
 
 pub loop-j-init : goal.loop-j-init
 unfolding oldest
-loop-j-init c = (omega arith, refl)
+loop-j-init c = refl
 
 pub older-best-requires : goal.older-best-requires
-older-best-requires c = let a = c.args in let l = c.loop-j in (rw l.invariant.1 (oldest_below a.slots.now l.j _ (omega arith) (omega arith)), omega arith)
+older-best-requires c = let l = c.loop-j in (rw l.invariant (oldest_below c.args.slots.now l.j _ (omega arith) (omega arith)), omega arith)
 
 pub loop-j-preserved : goal.loop-j-preserved
 unfolding oldest
-loop-j-preserved c = let l = c.loop-j in (omega arith, rw (add-one l.j, ← l.invariant.1) c.older-best.ensures)
+loop-j-preserved c = let l = c.loop-j in rw (add-one l.j, ← l.invariant) c.older-best.ensures

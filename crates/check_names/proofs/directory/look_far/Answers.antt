@@ -1,16 +1,18 @@
 -- `check_names::directory::look_far` meets its contract: the name is a part of the loaded entry (`name_cut`). Assumes nothing.
 use native.Mathlib.Omega.{arith}
-use mathlib.Core.Path.{sym, ap, ◌∙◌}
-use mathlib.Core.List.{List}
-use Prim.Native.Nat.{ℕ, ◌-◌}
 use lib.ListN.{length}
-use Rattle.check_names.specs.InnerNames.{hash}
-use Rattle.check_names.proofs.Entries.{name_cut}
+use mathlib.Core.Path.{◌≡◌, sym, ap, ◌∙◌}
+use Prim.Native.Nat.{◌-◌}
+use Rattle.words.proofs.Parts.{length_mid}
+use Rattle.check_names.proofs.Entries.{name_cut, length_loaded}
+use Rattle.check_names.proofs.Scanning.{scans_at}
 use Rattle.check_names.proofs.directory.look_far.Goals as goal
 
 pub returns : goal.returns
 returns c =
     let a = c.args in
     let f = c.load_entry-e in
-    let e = name_cut a.image.now a.n.0 a.k f.result (260 - 4) f.ensures (omega arith) in
-    (c.scan.ensures.0 ∙ ap length (sym e), c.scan.ensures.1 ∙ ap (λ (x : List ℕ). hash x) (sym e))
+    let k : length f.result ≡ 260 = ap length f.ensures ∙ length_loaded a.image.now a.n.0 a.k in
+    scans_at c.scan.result _ _ _ _
+    (name_cut a.image.now a.n.0 a.k f.result (260 - 4) f.ensures (omega arith))
+    (sym (length_mid 4 256 f.result (omega arith))) c.scan.ensures

@@ -1,22 +1,22 @@
--- `check_names::directory::same_name` meets its contract. The invariant: the names are the same where what is left of them from place i on is. Assumes nothing.
+-- `check_names::directory::same_name` meets its contract: the name that is compared with is a part of the loaded entry. Assumes nothing.
+use mathlib.Core.Path.{◌≡◌, refl, ap, ◌∙◌, subst}
+use mathlib.Core.List.{List}
 use native.Mathlib.Omega.{arith}
-use Rattle.check_names.proofs.Scanning.{alike_nul, alike_more, alike_not}
+use Prim.Native.Nat.{ℕ}
+use lib.ListN.{length}
+use Rattle.words.specs.Inner.{Tells}
+use Rattle.card_rules.specs.View.{name}
+use Rattle.check_names.proofs.Scanning.{is_name}
 use Rattle.check_names.proofs.directory.same_name.Goals as goal
 
-pub returns-then-p-i : goal.returns-then-p-i
-returns-then-p-i c =
+pub is_named-requires : goal.is_named-requires
+is_named-requires c =
     let a = c.args in
-    let l = c.loop-i in
-    alike_not a.a.now a.b.now l.i (omega arith) (omega arith) l.invariant.2 c.if-p-i.true
+    let e = c.name_of.ensures ∙ is_name a.image.now a.n.0 a.k _ _ c.load_entry-e.ensures (omega arith) refl in
+    (c.requires.0, omega (arith, ap length e), omega (arith, ap length e))
 
-pub returns-then-p-i-eq0 : goal.returns-then-p-i-eq0
-returns-then-p-i-eq0 c =
+pub returns : goal.returns
+returns c =
     let a = c.args in
-    let l = c.loop-i in
-    alike_nul a.a.now a.b.now l.i (omega arith) (omega arith) l.invariant.2 c.if-p-i.false c.if-p-i-eq0.true
-
-pub loop-i-preserved : goal.loop-i-preserved
-loop-i-preserved c =
-    let a = c.args in
-    let l = c.loop-i in
-    (omega arith, omega arith, alike_more a.a.now a.b.now l.i (omega arith) (omega arith) l.invariant.2 c.if-p-i.false c.if-p-i-eq0.false)
+    let e = c.name_of.ensures ∙ is_name a.image.now a.n.0 a.k _ _ c.load_entry-e.ensures (omega arith) refl in
+    subst (λ (x : List ℕ). Tells c.is_named.result (name a.image.now a.n.0 a.i ≡ x)) e c.is_named.ensures

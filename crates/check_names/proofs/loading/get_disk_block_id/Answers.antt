@@ -1,4 +1,5 @@
--- `check_names::loading::get_disk_block_id` meets its contract: in each arm the slot says where i falls (`falls`), and so that the words read are on the card. Assumes nothing.
+-- `check_names::loading::get_disk_block_id` meets its contract: in each arm the slot says where i falls (`falls`),
+-- and so that the words read are on the card. Assumes nothing.
 use native.Mathlib.Omega.{arith}
 use mathlib.Core.Path.{◌≡◌, sym, ap, ◌∙◌}
 use mathlib.Core.List.{List}
@@ -6,7 +7,7 @@ use Prim.Native.Nat.{ℕ, ◌<◌}
 use Rattle.card_layout.specs.Inode.{count, double}
 use Rattle.card_layout.specs.Slots.{seconds, slot_of}
 use Rattle.card_layout.specs.declared.slot.Slot.{Slot}
-use Rattle.card_rules.specs.View.{slot, second, data_at}
+use Rattle.card_rules.specs.View.{slot, second}
 use Rattle.card_rules.proofs.Views.{seconds_reach}
 use Rattle.check_names.proofs.Entries.{Falls, falls}
 use Rattle.check_names.proofs.loading.get_disk_block_id.Goals as goal
@@ -25,8 +26,8 @@ overflow_mul-k c = omega (arith, falls_at _ c.args.i (sym c.slot_of.ensures ∙ 
 pub overflow_add-at-in-Direct : goal.overflow_add-at-in-Direct
 overflow_add-at-in-Direct c = omega (arith, falls_at _ c.args.i (sym c.slot_of.ensures ∙ c.in-Direct.is))
 
-pub get32-requires : goal.get32-requires
-get32-requires c = omega (arith, falls_at _ c.args.i (sym c.slot_of.ensures ∙ c.in-Direct.is))
+pub get-requires : goal.get-requires
+get-requires c = omega (arith, falls_at _ c.args.i (sym c.slot_of.ensures ∙ c.in-Direct.is))
 
 pub overflow_mul-k-in-Indirect : goal.overflow_mul-k-in-Indirect
 overflow_mul-k-in-Indirect c = omega (arith, falls_at _ c.args.i (sym c.slot_of.ensures ∙ c.in-Indirect.is))
@@ -34,8 +35,10 @@ overflow_mul-k-in-Indirect c = omega (arith, falls_at _ c.args.i (sym c.slot_of.
 pub overflow_add-p : goal.overflow_add-p
 overflow_add-p c = omega (arith, falls_at _ c.args.i (sym c.slot_of.ensures ∙ c.in-Indirect.is))
 
-pub get32-requires-in-Indirect-2 : goal.get32-requires-in-Indirect-2
-get32-requires-in-Indirect-2 c = let f = falls_at _ c.args.i (sym c.slot_of.ensures ∙ c.in-Indirect.is) in omega (arith, c.get32-in-Indirect.ensures, c.requires.0.indirect_in (omega arith))
+pub get-requires-in-Indirect-2 : goal.get-requires-in-Indirect-2
+get-requires-in-Indirect-2 c =
+    let f = falls_at _ c.args.i (sym c.slot_of.ensures ∙ c.in-Indirect.is) in
+    omega (arith, c.get-in-Indirect.ensures, c.requires.0.indirect_in (omega arith))
 
 pub overflow_mul-j : goal.overflow_mul-j
 overflow_mul-j c = omega (arith, falls_at _ c.args.i (sym c.slot_of.ensures ∙ c.in-Double.is))
@@ -43,8 +46,10 @@ overflow_mul-j c = omega (arith, falls_at _ c.args.i (sym c.slot_of.ensures ∙ 
 pub overflow_add-d : goal.overflow_add-d
 overflow_add-d c = omega (arith, falls_at _ c.args.i (sym c.slot_of.ensures ∙ c.in-Double.is))
 
-pub get32-requires-in-Double-2 : goal.get32-requires-in-Double-2
-get32-requires-in-Double-2 c = let f = falls_at _ c.args.i (sym c.slot_of.ensures ∙ c.in-Double.is) in omega (arith, c.get32-in-Double.ensures, c.requires.0.double_in (omega arith))
+pub get-requires-in-Double-2 : goal.get-requires-in-Double-2
+get-requires-in-Double-2 c =
+    let f = falls_at _ c.args.i (sym c.slot_of.ensures ∙ c.in-Double.is) in
+    omega (arith, c.get-in-Double.ensures, c.requires.0.double_in (omega arith))
 
 pub overflow_mul-k-in-Double : goal.overflow_mul-k-in-Double
 overflow_mul-k-in-Double c = omega (arith, falls_at _ c.args.i (sym c.slot_of.ensures ∙ c.in-Double.is))
@@ -52,28 +57,10 @@ overflow_mul-k-in-Double c = omega (arith, falls_at _ c.args.i (sym c.slot_of.en
 pub overflow_add-q : goal.overflow_add-q
 overflow_add-q c = omega (arith, falls_at _ c.args.i (sym c.slot_of.ensures ∙ c.in-Double.is))
 
-pub get32-requires-in-Double-3 : goal.get32-requires-in-Double-3
-get32-requires-in-Double-3 c =
+pub get-requires-in-Double-3 : goal.get-requires-in-Double-3
+get-requires-in-Double-3 c =
     let f = falls_at _ c.args.i (sym c.slot_of.ensures ∙ c.in-Double.is) in
     let j = c.in-Double.j in
     let few : j < seconds (count c.args.image.now c.args.n.0) =
     omega (arith, seconds_reach (count c.args.image.now c.args.n.0) c.args.i c.requires.1 f.0) in
-    omega (arith, second_read c.args.image.now c.args.n.0 j _ _ c.get32-in-Double.ensures c.get32-in-Double-2.ensures, c.requires.0.second_in j few)
-
-pub returns-in-Direct : goal.returns-in-Direct
-unfolding data_at
-returns-in-Direct c = let e = sym c.slot_of.ensures ∙ c.in-Direct.is in rw (e, c.get32.ensures)
-
-pub returns-in-Indirect : goal.returns-in-Indirect
-unfolding data_at
-returns-in-Indirect c = let e = sym c.slot_of.ensures ∙ c.in-Indirect.is in rw (e, c.get32-in-Indirect-2.ensures, c.get32-in-Indirect.ensures)
-
-pub returns-in-Double : goal.returns-in-Double
-unfolding data_at
-returns-in-Double c =
-    let e = sym c.slot_of.ensures ∙ c.in-Double.is in
-    rw (e, c.get32-in-Double-3.ensures, second_read c.args.image.now c.args.n.0 c.in-Double.j _ _ c.get32-in-Double.ensures c.get32-in-Double-2.ensures)
-
-pub returns-in-Past : goal.returns-in-Past
-unfolding data_at
-returns-in-Past c = let e = sym c.slot_of.ensures ∙ c.in-Past.is in rw e
+    omega (arith, second_read c.args.image.now c.args.n.0 j _ _ c.get-in-Double.ensures c.get-in-Double-2.ensures, c.requires.0.second_in j few)

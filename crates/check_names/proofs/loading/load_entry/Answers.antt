@@ -17,15 +17,16 @@ first_part img e n o x b p q = p ∙ ap (λ (d : ℕ). copied (replicate 260 0) 
 pub returns-then-x-lt-DIRENT_SIZE : goal.returns-then-x-lt-DIRENT_SIZE
 returns-then-x-lt-DIRENT_SIZE c =
     let a = c.args in
-    let x = c.run_at-x.result in
+    let x = c.min-x.result in
     let img = a.image.now in
     c.copy-then-x-lt-DIRENT_SIZE.ensures
-    ∙ ap (λ (e : List ℕ). copied e x img (4096 * c.get_disk_block_id-c.result.0) (260 - x)) (first_part a.image.now _ a.n.0 (260 * a.k) c.run_at-x.result _ c.copy.ensures c.get_disk_block_id-b.ensures)
+    ∙ ap (λ (e : List ℕ). copied e x img (4096 * c.get_disk_block_id-c.result.0) (260 - x))
+    (first_part a.image.now _ a.n.0 (260 * a.k) c.min-x.result _ c.copy.ensures c.get_disk_block_id-b.ensures)
     ∙ rw c.get_disk_block_id-c.ensures (run_pair img a.n.0 (260 * a.k) (replicate 260 0) 260 x refl (omega arith) (omega arith) (omega arith))
 
 pub returns-else-x-lt-DIRENT_SIZE : goal.returns-else-x-lt-DIRENT_SIZE
 returns-else-x-lt-DIRENT_SIZE c =
     let a = c.args in
-    let x : c.run_at-x.result ≡ 260 = omega arith in
-    first_part a.image.now _ a.n.0 (260 * a.k) c.run_at-x.result _ c.copy.ensures c.get_disk_block_id-b.ensures
+    let x : c.min-x.result ≡ 260 = omega arith in
+    first_part a.image.now _ a.n.0 (260 * a.k) c.min-x.result _ c.copy.ensures c.get_disk_block_id-b.ensures
     ∙ rw x (run_alone a.image.now a.n.0 (260 * a.k) (replicate 260 0) 260 refl (omega arith))

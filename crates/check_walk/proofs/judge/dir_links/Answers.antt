@@ -14,9 +14,9 @@ family-requires c =
 pub overflow_add-result : goal.overflow_add-result
 overflow_add-result c =
     let a = c.args in
-    omega (arith, kept_few a.image.now a.n.0 c.in-Subs.c c.in-Subs.ensures, c.kid_count.ensures, head_kids_lem a.image.now a.n.0 a.h c.requires.0)
+    omega (arith, kept_few a.image.now a.n.0 c.in-Some.c c.in-Some.ensures, c.kid_count.ensures, head_kids_lem a.image.now a.n.0 a.h c.requires.0)
 
-pub returns-in-Subs : goal.returns-in-Subs
-returns-in-Subs c =
+pub returns-in-Some : goal.returns-in-Some
+returns-in-Some c =
     let a = c.args in
-    dir_tally a.image.now a.n.0 a.v _ _ c.requires.1 c.if-v-ne1.false (head_links_lem a.image.now a.n.0 a.h c.requires.0) c.in-Subs.ensures
+    dir_tally a.image.now a.n.0 a.v _ _ c.requires.1 c.if-v-ne1.false (head_links_lem a.image.now a.n.0 a.h c.requires.0) c.in-Some.ensures

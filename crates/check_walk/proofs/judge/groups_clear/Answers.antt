@@ -7,12 +7,12 @@ use Rattle.card_map.proofs.Groups.{clear_group}
 use Rattle.check_walk.proofs.Passing.{clear_more}
 use Rattle.check_walk.proofs.judge.groups_clear.Goals as goal
 
-pub returns-then-get64-ne0 : goal.returns-then-get64-ne0
-returns-then-get64-ne0 c =
+pub returns-then-get-ne0 : goal.returns-then-get-ne0
+returns-then-get-ne0 c =
     let img = c.args.image.now in
     let small : Bytes img = record { below = λ k. omega (arith, c.type_inv.image k) } in
-    λ h. c.if-get64-ne0.true (c.get64.ensures ∙ clear_group img (8 * c.loop-j.j) small (λ b l m. h b (omega arith) (omega arith)))
+    λ h. c.if-get-ne0.true (c.get.ensures ∙ clear_group img (8 * c.loop-j.j) small (λ b l m. h b (omega arith) (omega arith)))
 
 pub loop-j-preserved : goal.loop-j-preserved
 loop-j-preserved c =
-    (omega arith, clear_more c.args.image.now c.args.i c.loop-j.j c.loop-j.invariant.1 (sym c.get64.ensures ∙ c.if-get64-ne0.false))
+    clear_more c.args.image.now c.args.i c.loop-j.j c.loop-j.invariant (sym c.get.ensures ∙ c.if-get-ne0.false)

@@ -1,30 +1,20 @@
--- `check_walk::judge::start` meets its contract. The loop's invariant: the marks of the first i blocks of the map are stored (`puts`). Assumes nothing.
-use mathlib.Core.Path.{◌≡◌, ap, ◌∙◌}
+-- `check_walk::judge::start` meets its contract: the marks of the blocks of the map are a fill (`filled`). Assumes nothing.
+use mathlib.Core.Path.{ap, ◌≡◌, ◌∙◌}
 use mathlib.Core.List.{List}
-use Prim.Native.Nat.{ℕ, ◌+◌, ◌*◌}
+use Prim.Native.Nat.{ℕ, ◌+◌, ◌-◌, ◌*◌, ◌≤◌}
+use lib.ListN.{length, set, length-set}
 use native.Mathlib.Omega.{arith}
-use lib.ListN.{set, length-set}
-use Rattle.words.specs.Runs.{puts}
-use Rattle.words.proofs.Runs.{puts_none, puts_more}
+use Rattle.words.proofs.Parts.{length_mid}
 use Rattle.check_walk.specs.Inner.{started}
+use Rattle.check_walk.proofs.Starting.{filled}
 use Rattle.check_walk.proofs.judge.start.Goals as goal
-
-pub loop-i-init : goal.loop-i-init
-loop-i-init c = (omega arith, simp length-set (omega arith), puts_none _ _ _)
-
-pub loop-i-preserved : goal.loop-i-preserved
-loop-i-preserved c =
-    let a = c.args in
-    let l = c.loop-i in (
-      omega arith,
-      simp length-set (omega arith),
-      ap (λ (x : List ℕ). set x (3 * a.nb + (2 + l.i)) 1) l.invariant.2 ∙ puts_more (set a.s.now (3 * a.nb) 1) (λ k. 3 * a.nb + (2 + k)) (λ k. 1) l.i,
-    )
 
 pub returns : goal.returns
 unfolding started
 returns c =
     let a = c.args in
-    let l = c.loop-i in
-    let e : l.i ≡ a.f = omega arith in
-    ap (λ (x : List ℕ). set (set x 0 1) (2 * a.nb + 1) 1) (l.invariant.2 ∙ ap (puts (set a.s.now (3 * a.nb) 1) (λ k. 3 * a.nb + (2 + k)) (λ k. 1)) e)
+    let d : List ℕ = set a.s.now (3 * a.nb) 1 in
+    let l : 3 * a.nb + 2 + a.f ≤ length d = simp length-set (omega arith) in
+    let k : 3 * a.nb + 2 + a.f - (3 * a.nb + 2) ≡ a.f = omega arith in
+    let e = filled d a.nb a.f _ l (length_mid (3 * a.nb + 2) (3 * a.nb + 2 + a.f - (3 * a.nb + 2)) d (omega arith) ∙ k) in
+    rw c.fill.ensures.after (ap (λ (x : List ℕ). set (set x 0 1) (2 * a.nb + 1) 1) e)

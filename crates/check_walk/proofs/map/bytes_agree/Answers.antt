@@ -6,7 +6,6 @@ use native.Mathlib.Omega.{arith}
 use native.Mathlib.Decide.{dec_lt}
 use lib.ListN.{get_or}
 use Rattle.words.specs.Words.{byte}
-use Rattle.words.proofs.Answers.{when-not-true, when_not_false}
 use Rattle.card_map.specs.Bits.{map_bit}
 use Rattle.card_map.proofs.Bits.{bit_of}
 use Rattle.card_map.proofs.Map.{bit_at}
@@ -42,13 +41,10 @@ pub returns-then-not-eight_agree : goal.returns-then-not-eight_agree
 returns-then-not-eight_agree c =
     let a = c.args in
     let i = c.loop-i.i in
-    let r = c.eight_agree in
-    λ h. when-not-true r.result _ _ c.if-not-eight_agree.true-raw r.ensures (of-each a.image.now a.s.now a.nb i (8 * a.n) (omega arith) h)
+    λ h. c.if-not-eight_agree.ensures (of-each a.image.now a.s.now a.nb i (8 * a.n) (omega arith) h)
 
 pub loop-i-preserved : goal.loop-i-preserved
 loop-i-preserved c =
     let a = c.args in
     let i = c.loop-i.i in
-    let r = c.eight_agree in
-    let e = when_not_false r.result _ _ c.if-not-eight_agree.false-raw r.ensures in
-    (omega arith, more a.image.now a.s.now a.nb i c.loop-i.invariant.1 e)
+    more a.image.now a.s.now a.nb i c.loop-i.invariant c.if-not-eight_agree.ensures

@@ -1,6 +1,6 @@
 use mathlib.Core.Path.{◌≡◌}
 use mathlib.Core.List.{List}
-use Prim.Native.Nat.{ℕ, ◌+◌, ◌-◌, ◌*◌, ◌≤◌, ◌<◌}
+use Prim.Native.Nat.{ℕ, ◌+◌, ◌*◌, ◌<◌}
 use Rattle.card_map.specs.Bits.{map_bit}
 use Rattle.check_walk.specs.Inner.{own_at}
 use Rattle.check_walk.proofs.map.bytes_agree.Given as goal
@@ -10,7 +10,4 @@ abbrev Each : List ℕ → List ℕ → ℕ → ℕ → Type 0
 Each img s nb n = (b : ℕ) → b < n → own_at s nb b + map_bit img b ≡ 1
 
 abbrev pub invariant-loop-i : goal.invariant-loop-i
-invariant-loop-i l = (l.i ≤ l.n) × Each l.image l.s l.nb (8 * l.i)
-
-abbrev pub decreases-loop-i : goal.decreases-loop-i
-decreases-loop-i l = l.n - l.i
+invariant-loop-i l = Each l.image l.s l.nb (8 * l.i)

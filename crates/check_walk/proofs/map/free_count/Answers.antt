@@ -11,10 +11,10 @@ pub overflow_add-c : goal.overflow_add-c
 overflow_add-c c =
     let a = c.args in
     let l = c.loop-b in
-    omega (arith, l.invariant.1, free_most a.image.now l.b, c.bit.ensures, bit_below a.image.now l.b)
+    omega (arith, l.invariant, free_most a.image.now l.b, c.bit.ensures, bit_below a.image.now l.b)
 
 pub loop-b-preserved : goal.loop-b-preserved
 loop-b-preserved c =
     let a = c.args in
     let l = c.loop-b in
-    (omega arith, rw (add-one l.b) (omega (arith, l.invariant.1, c.bit.ensures, sum_to_suc (map_bit a.image.now) l.b)))
+    rw (add-one l.b) (omega (arith, l.invariant, c.bit.ensures, sum_to_suc (map_bit a.image.now) l.b))

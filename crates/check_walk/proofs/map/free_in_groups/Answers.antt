@@ -15,14 +15,14 @@ more : (img : List ℕ) (c i x : ℕ) → c ≡ free_bits img (64 * i) → x ≡
 more img c i x e q small = omega (arith, e, ap ones q, group_free img i small)
 
 pub loop-i-init : goal.loop-i-init
-loop-i-init c = (omega arith, sym (sum_to_zero _))
+loop-i-init c = sym (sum_to_zero _)
 
 pub overflow_add-c : goal.overflow_add-c
 overflow_add-c c =
     let l = c.loop-i in
     let a = c.args in
     let small : Bytes a.image.now = record { below = λ k. omega (arith, c.type_inv.image k) } in
-    let e = more a.image.now l.c l.i c.get64.result l.invariant.1 c.get64.ensures small in
+    let e = more a.image.now l.c l.i c.get.result l.invariant c.get.ensures small in
     omega (arith, e, free_most a.image.now (64 * (l.i + 1)))
 
 pub loop-i-preserved : goal.loop-i-preserved
@@ -30,5 +30,5 @@ loop-i-preserved c =
     let l = c.loop-i in
     let a = c.args in
     let small : Bytes a.image.now = record { below = λ k. omega (arith, c.type_inv.image k) } in
-    let e = more a.image.now l.c l.i c.get64.result l.invariant.1 c.get64.ensures small in
-    (omega arith, e)
+    let e = more a.image.now l.c l.i c.get.result l.invariant c.get.ensures small in
+    e

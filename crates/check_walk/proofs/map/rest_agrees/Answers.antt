@@ -14,4 +14,4 @@ loop-b-preserved c =
     let a = c.args in
     let l = c.loop-b in
     let e = c.bit-f.ensures in
-    (omega arith, below_more _ _ l.invariant.1 (λ _. omega (arith, e, c.if-s-nb.false, bit_below a.image.now l.b)))
+    below_more _ _ l.invariant (λ _. omega (arith, e, c.if-s-nb.false, bit_below a.image.now l.b))

@@ -10,7 +10,7 @@ use Rattle.check_walk.proofs.Queueing.{room, noting_none, noting_more, noting_ma
 use Rattle.check_walk.proofs.queue.scan.Goals as goal
 
 pub loop-j-init : goal.loop-j-init
-loop-j-init c = (omega arith, noting_none _ _ _ _ _ c.requires.6, nowhere_block _ _ _ _ c.nowhere-p.ensures.0 c.nowhere-p.ensures.1)
+loop-j-init c = (noting_none _ _ _ _ _ c.requires.6, nowhere_block _ _ _ _ c.nowhere-p.ensures.0 c.nowhere-p.ensures.1)
 
 pub returns-then-nb-at : goal.returns-then-nb-at
 returns-then-nb-at c =
@@ -21,16 +21,16 @@ returns-then-v-gt-MANY c =
     let o = c.loop-j in
     let r = c.entry_after-p in
     let l : o.j < kids c.args.image.now c.args.n.0 = omega (arith, c.requires.1) in
-    noting_many _ _ _ _ _ _ _ _ _ o.invariant.1 l r.ensures.1 (omega arith) (omega arith)
+    noting_many _ _ _ _ _ _ _ _ _ o.invariant.0 l r.ensures.1 (omega arith) (omega arith)
 
 pub note-end-requires : goal.note-end-requires
 note-end-requires c = (
   search rules,
-  omega (arith, c.loop-j.invariant.1.grown.long),
+  omega (arith, c.loop-j.invariant.0.grown.long),
   omega arith,
   refl,
   omega arith,
-  λ z. room _ _ _ _ c.loop-j.invariant.1.grown.queue c.entry_after-p.result.number.0 (omega arith) z,
+  λ z. room _ _ _ _ c.loop-j.invariant.0.grown.queue c.entry_after-p.result.number.0 (omega arith) z,
 )
 
 pub loop-j-preserved : goal.loop-j-preserved
@@ -38,7 +38,6 @@ loop-j-preserved c =
     let o = c.loop-j in
     let r = c.entry_after-p in
     let l : o.j < kids c.args.image.now c.args.n.0 = omega (arith, c.requires.1) in (
-      omega arith,
-      noting_more _ _ _ _ _ _ _ _ _ o.invariant.1 l r.ensures.1 (omega arith) _ _ (omega arith) c.requires.5 c.note-end.ensures,
+      noting_more _ _ _ _ _ _ _ _ _ o.invariant.0 l r.ensures.1 (omega arith) _ _ (omega arith) c.requires.5 c.note-end.ensures,
       r.ensures.0,
     )

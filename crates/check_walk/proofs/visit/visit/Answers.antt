@@ -20,10 +20,11 @@ decode-requires c =
     let p = c.requires in
     omega (arith, n_inside a.image.now a.s.now a.nb a.h a.t (get_or a.s.now a.h 0) p.2 p.0.words p.1 refl)
 
-pub returns-in-BadKind : goal.returns-in-BadKind
-returns-in-BadKind c =
+pub returns-in_err-d : goal.returns-in_err-d
+returns-in_err-d c =
     let a = c.args in
     let p = c.requires in
-    λ enb w.
+    rw c.from_residual.ensures
+    (λ enb w.
     wrong a.image.now a.s.now a.nb a.h a.t (get_or a.s.now a.h 0) p.2 p.0.words p.1 refl enb w
-    (ill (bad_no_inode a.image.now (get_or a.s.now a.h 0) (sym c.decode.ensures ∙ c.in-BadKind.is)))
+    (ill (bad_no_inode a.image.now (get_or a.s.now a.h 0) (sym c.decode.ensures ∙ c.in_err-d.was))))

@@ -1,4 +1,5 @@
--- `check_walk::visit::walk` meets its contract. The loop's invariant is `Progress`, and the scratch keeps its length. The measure is nb - h: the queue is no longer
+-- `check_walk::visit::walk` meets its contract. The loop's invariant is `Progress`, and the scratch keeps its length.
+-- The measure is nb - h: the queue is no longer
 -- than the card. Assumes nothing.
 use native.Mathlib.Omega.{arith}
 use Rattle.check_walk.proofs.Queueing.{queue_le}

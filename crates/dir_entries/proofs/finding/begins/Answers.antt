@@ -8,22 +8,22 @@ pub returns-then-e-i : goal.returns-then-e-i
 returns-then-e-i c =
     let a = c.args in
     let l = c.loop-i in
-    sym (l.invariant.1 ∙ place_other a.e.now a.x.now l.i (omega arith) (omega arith) c.if-e-i.true)
+    sym (l.invariant ∙ place_other a.e.now a.x.now l.i (omega arith) (omega arith) c.if-e-i.true)
 
 pub returns-then-e-i-eq0 : goal.returns-then-e-i-eq0
 returns-then-e-i-eq0 c =
     let a = c.args in
     let l = c.loop-i in
-    sym (l.invariant.1 ∙ place_nul a.e.now a.x.now l.i (omega arith) (omega arith) c.if-e-i-eq0.true)
+    sym (l.invariant ∙ place_nul a.e.now a.x.now l.i (omega arith) (omega arith) c.if-e-i-eq0.true)
 
 pub loop-i-preserved : goal.loop-i-preserved
 loop-i-preserved c =
     let a = c.args in
     let l = c.loop-i in
-    (omega arith, l.invariant.1 ∙ place_same a.e.now a.x.now l.i (omega arith) (omega arith) c.if-e-i.false c.if-e-i-eq0.false)
+    l.invariant ∙ place_same a.e.now a.x.now l.i (omega arith) (omega arith) c.if-e-i.false c.if-e-i-eq0.false
 
 pub returns : goal.returns
 returns c =
     let a = c.args in
     let l = c.loop-i in
-    sym (l.invariant.1 ∙ place_end a.e.now a.x.now l.i (omega arith) c.requires.1)
+    sym (l.invariant ∙ place_end a.e.now a.x.now l.i (omega arith) c.requires.1)

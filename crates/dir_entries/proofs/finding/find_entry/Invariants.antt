@@ -1,11 +1,7 @@
 use mathlib.Core.Path.{◌≡◌}
-use Prim.Native.Nat.{◌≤◌, ◌-◌}
 use Rattle.card_rules.specs.View.{data_at}
 use Rattle.dir_entries.proofs.Lookup.{Unmet}
 use Rattle.dir_entries.proofs.finding.find_entry.Given as goal
 
 abbrev pub invariant-loop-k : goal.invariant-loop-k
-invariant-loop-k l = (l.k ≤ l.total) × (l.b.0 ≡ data_at l.image l.n.0 l.c) × Unmet l.image l.n.0 l.x l.k
-
-abbrev pub decreases-loop-k : goal.decreases-loop-k
-decreases-loop-k l = l.total - l.k
+invariant-loop-k l = (l.b.0 ≡ data_at l.image l.n.0 l.c) × Unmet l.image l.n.0 l.x l.k

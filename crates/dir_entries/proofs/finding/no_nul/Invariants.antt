@@ -1,11 +1,7 @@
 use mathlib.Core.Path.{◌≡◌}
-use Prim.Native.Nat.{◌≤◌, ◌-◌}
-use lib.ListN.{length, drop}
+use lib.ListN.{drop}
 use Rattle.dir_entries.specs.Names.{no_nul}
 use Rattle.dir_entries.proofs.finding.no_nul.Given as goal
 
-abbrev pub invariant-loop-i : goal.invariant-loop-i
-invariant-loop-i l = (l.i ≤ length l.x) × (no_nul l.x ≡ no_nul (drop l.i l.x))
-
-abbrev pub decreases-loop-i : goal.decreases-loop-i
-decreases-loop-i l = length l.x - l.i
+abbrev pub invariant-loop-b : goal.invariant-loop-b
+invariant-loop-b l = no_nul l.fn.x ≡ no_nul (drop l.b-index l.fn.x)

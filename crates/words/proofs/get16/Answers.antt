@@ -1,7 +1,0 @@
-use Rattle.words.specs.Words.{num}
-use native.Mathlib.Omega.{arith}
-use Rattle.words.proofs.get16.Goals as goal
-
-pub returns : goal.returns
-unfolding num
-returns c = omega arith

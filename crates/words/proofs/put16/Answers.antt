@@ -1,7 +1,0 @@
-use Rattle.words.specs.Words.{put_num}
-use mathlib.Core.Path.{refl}
-use Rattle.words.proofs.put16.Goals as goal
-
-pub returns : goal.returns
-unfolding put_num
-returns c = refl
