@@ -1,7 +1,26 @@
 // Which slot a call uses, and the order of use.
 ghost use Rattle.std.specs.Prelude.{◌≡◌, ◌<◌, ◌*◌, ◌+◌};
 ghost use Rattle.cache_order.specs.Slots.{slots_in};
-ghost use Rattle.cache_order.specs.Order.{unused_at, holds, hit_of, spare_of, Found, older_of, oldest, room_of, slot_for, place_after, pushed, visited, named, entered, fresh_slot, read_status, sync_slots, clean_status};
+ghost use Rattle.cache_order.specs.Order.{
+  unused_at,
+  holds,
+  hit_of,
+  spare_of,
+  Found,
+  older_of,
+  oldest,
+  room_of,
+  slot_for,
+  place_after,
+  pushed,
+  visited,
+  named,
+  entered,
+  fresh_slot,
+  read_status,
+  sync_slots,
+  clean_status,
+};
 
 use crate::Status;
 

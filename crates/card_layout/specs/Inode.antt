@@ -1,6 +1,30 @@
 -- The inode record (RULES): "the first 80 bytes of its own block: size (4 bytes) at 0, kind (2) at 4, links (2) at 6, blocks (4) at 8, twelve
 -- direct slots at 12, indirect at 60, double indirect at 64, padding 68 to 71, device number (8) at 72". "An inode's number is its block."
-use Rattle.std.specs.Prelude.{ℕ, zero, suc, ◌+◌, ◌*◌, ◌≤◌, ◌<◌, ◌^◌, ◌≡◌, List, [], ◌∷◌, Option, Some, None, Result, Ok, Err, eqb, length, get_or, set, replicate}
+use Rattle.std.specs.Prelude.{
+  ℕ,
+  zero,
+  suc,
+  ◌+◌,
+  ◌*◌,
+  ◌≤◌,
+  ◌<◌,
+  ◌^◌,
+  ◌≡◌,
+  List,
+  [],
+  ◌∷◌,
+  Option,
+  Some,
+  None,
+  Result,
+  Ok,
+  Err,
+  eqb,
+  length,
+  get_or,
+  set,
+  replicate,
+}
 use Rattle.words.specs.Words.{pick, half, word, long, put_half, put_word, put_long}
 use Rattle.card_layout.specs.Sizes.{blocks_for, block_size}
 use Rattle.card_layout.specs.declared.BlockId.{BlockId}

@@ -1,7 +1,24 @@
 // The inode record, the first 80 bytes of its own block.
 ghost use Rattle.std.specs.Prelude.{◌≡◌, ◌+◌, ◌*◌, ◌≤◌, ◌<◌, length};
 ghost use Rattle.card_layout.specs.Sizes.{block_size};
-ghost use Rattle.card_layout.specs.Inode.{kind_no, kind_of, head_at, decoded, directs, put_words, put_front, put_back, encoded, new_inode, with_size, with_links, with_blocks, with_indirect, with_double, with_direct};
+ghost use Rattle.card_layout.specs.Inode.{
+  kind_no,
+  kind_of,
+  head_at,
+  decoded,
+  directs,
+  put_words,
+  put_front,
+  put_back,
+  encoded,
+  new_inode,
+  with_size,
+  with_links,
+  with_blocks,
+  with_indirect,
+  with_double,
+  with_direct,
+};
 
 use crate::{BLKSIZE, BlockId, INodeId, NODEVICE};
 use refusals::Refusal;

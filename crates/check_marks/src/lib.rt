@@ -8,7 +8,21 @@ ghost use Rattle.words.specs.Inner.{When, Tells};
 ghost use Rattle.card_layout.specs.Sizes.{block_size};
 ghost use Rattle.card_layout.specs.Inode.{Exact};
 ghost use Rattle.card_rules.specs.View.{owns};
-ghost use Rattle.check_marks.specs.Inner.{Room, Mark, NoMark, Marked, run_use, record_use, slots_at, level_use, LevelAsks, indirect_use, double_use, HeadOf, HeadFits};
+ghost use Rattle.check_marks.specs.Inner.{
+  Room,
+  Mark,
+  NoMark,
+  Marked,
+  run_use,
+  record_use,
+  slots_at,
+  level_use,
+  LevelAsks,
+  indirect_use,
+  double_use,
+  HeadOf,
+  HeadFits,
+};
 
 use card_layout::inode::Head;
 use card_layout::{BLKSIZE, BlockId, INodeId, slot};
