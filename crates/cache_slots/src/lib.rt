@@ -80,6 +80,7 @@ pub fn visit(slots: &mut [Slot], i: usize)
 }
 
 // A hit: the slot with that block comes to the front.
+#[tactic(auto, using(crate::proofs::Laws::touched_hit, crate::proofs::Laws::touched_miss))]
 pub fn touch(slots: &mut [Slot], block: u32) -> Option<usize>
     ensures found { Found (find_of slots.old block) (length slots.old) result }
     ensures slots { slots.new ≡ touched slots.old block }

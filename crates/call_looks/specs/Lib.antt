@@ -1,2 +1,1 @@
 pub mod LookCalls
-pub mod Told

@@ -4,8 +4,8 @@
 ghost use Rattle.std.specs.Prelude.{◌≡◌};
 ghost use Rattle.card_layout.specs.Inode.{kind_no};
 ghost use Rattle.call_said.specs.Said.{plain, numbered};
-ghost use Rattle.call_looks.specs.LookCalls.{Found, Listed, Described};
-ghost use Rattle.call_looks.specs.Told.{bytes_of, field};
+ghost use Rattle.call_looks.specs.LookCalls.{Found, Listed, Described, field};
+ghost use Rattle.dir_look.specs.Look.{bytes_of};
 
 use card_layout::inode::FileType;
 use card_layout::{DIRENT_SIZE, INodeId, inode};

@@ -2,12 +2,13 @@
 use mathlib.Core.Path.{◌≡◌, refl, ap, ◌∙◌}
 use mathlib.Core.Logic.{◌≢◌}
 use mathlib.Core.List.{List, [], ◌∷◌}
-use Prim.Native.Nat.{ℕ, ◌≤◌, ◌<◌}
+use Prim.Native.Nat.{ℕ, ◌-◌, ◌≤◌, ◌<◌}
 use native.Mathlib.Omega.{arith}
-use borrow.Author.Tests.{le-leb, lt-ltb}
+use borrow.Author.Tests.{le-leb}
 use lib.ListN.{length, take, drop, length-append}
 use lib.Seq.{take-append_seam}
 use Rattle.check_walk.specs.Opening.{blocks_of, unused_of, Opened}
+use Rattle.words.specs.Words.{pick}
 use Rattle.check_line.specs.Line.{digit, digits, decimal, check_line, line_of, line_room, line_length, lined}
 use Rattle.check_line.proofs.Decimal.{length_32}
 use Rattle.check_line.proofs.Puts.{put_front}
@@ -29,7 +30,7 @@ use Rattle.refusals.specs.declared.Refusal.TheVariants.{
   TooManyLinks,
   NoDeviceSpace,
 }
-use Rattle.std.specs.Prelude.{Ok, Err}
+use Rattle.std.specs.Prelude.{Ok, Err, ltb}
 
 -- "status 0 blocks 16 free 12"
 pub line_fresh : check_line 0 16 12
@@ -42,15 +43,31 @@ pub line_refused : (r : Opened) → answer_no r ≢ 0 → line_of r ≡ check_li
 line_refused (Ok c) d = absurd (d refl)
 line_refused (Err e) d = refl
 
--- "status S blocks 0 free 0" and a newline, where S is one digit
-abbrev pub refusal_line : ℕ → List ℕ
-refusal_line s =
-    115 ∷ 116 ∷ 97 ∷ 116 ∷ 117 ∷ 115 ∷ 32 ∷ digit s ∷ 32 ∷ 98 ∷ 108 ∷ 111 ∷ 99 ∷ 107 ∷ 115 ∷ 32 ∷ 48 ∷ 32 ∷ 102 ∷ 114 ∷ 101 ∷ 101 ∷ 32 ∷ 48 ∷ 10 ∷ []
+-- " blocks 0 free 0" and a newline
+abbrev pub refusal_end : List ℕ
+refusal_end = 32 ∷ 98 ∷ 108 ∷ 111 ∷ 99 ∷ 107 ∷ 115 ∷ 32 ∷ 48 ∷ 32 ∷ 102 ∷ 114 ∷ 101 ∷ 101 ∷ 32 ∷ 48 ∷ 10 ∷ []
 
-pub line_refused_bytes : (r : Opened) → answer_no r ≢ 0 → answer_no r < 10 → line_of r ≡ refusal_line (answer_no r)
+-- "status S blocks 0 free 0" and a newline, where S is one digit, or "1" and one
+abbrev pub refusal_line : ℕ → List ℕ
+refusal_line s = 115 ∷ 116 ∷ 97 ∷ 116 ∷ 117 ∷ 115 ∷ 32 ∷ pick (ltb s 10) (digit s ∷ refusal_end) (49 ∷ digit (s - 10) ∷ refusal_end)
+
+pub line_refused_bytes : (r : Opened) → answer_no r ≢ 0 → line_of r ≡ refusal_line (answer_no r)
 unfolding check_line decimal digits
-line_refused_bytes (Ok c) d l = absurd (d refl)
-line_refused_bytes (Err e) d l = rw lt-ltb
+line_refused_bytes (Ok c) d = absurd (d refl)
+line_refused_bytes (Err ScratchShort) d = refl
+line_refused_bytes (Err WrongFs) d = refl
+line_refused_bytes (Err Damaged) d = refl
+line_refused_bytes (Err NoInode) d = refl
+line_refused_bytes (Err NotFile) d = refl
+line_refused_bytes (Err NotDir) d = refl
+line_refused_bytes (Err IsDir) d = refl
+line_refused_bytes (Err BadName) d = refl
+line_refused_bytes (Err EntryExist) d = refl
+line_refused_bytes (Err EntryNotFound) d = refl
+line_refused_bytes (Err DirNotEmpty) d = refl
+line_refused_bytes (Err InvalidParam) d = refl
+line_refused_bytes (Err TooManyLinks) d = refl
+line_refused_bytes (Err NoDeviceSpace) d = refl
 
 -- the digit of each: "1", "2", "3", "4"
 pub refused_digits : (decimal 1 ≡ 49 ∷ []) × (decimal 2 ≡ 50 ∷ []) × (decimal 3 ≡ 51 ∷ []) × (decimal 4 ≡ 52 ∷ [])

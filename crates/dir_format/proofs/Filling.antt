@@ -101,7 +101,7 @@ module _ (img : List ℕ) (j : ℕ) (inside : 8192 + j < length img) where
           go (no d) = rw get_or-set_other (sym (s.others b d))
 
 -- the next byte of a run
-byte_more : (i j : ℕ) (img x : List ℕ) → i ≤ j → x ≡ bits_set (8 * i) (8 * j) img → 8192 + j < length x → Bytes x
+pub byte_more : (i j : ℕ) (img x : List ℕ) → i ≤ j → x ≡ bits_set (8 * i) (8 * j) img → 8192 + j < length x → Bytes x
     → set x (8192 + j) 255 ≡ bits_set (8 * i) (8 * (j + 1)) img
 byte_more i j img x l e inside small =
     let n : 8 ≡ 8 * (j + 1) - 8 * j = omega arith in

@@ -7,16 +7,12 @@ use Rattle.card_rules.specs.View.{entries, file_bytes}
 use Rattle.file_blocks.proofs.Picks.{pick_yes, pick_no}
 use Rattle.dir_answers.specs.Answers.{in_dir}
 use Rattle.dir_answers.proofs.Heads.{dir_good, dir_yes}
-use Rattle.dir_look.specs.Look.{entry_answer, entry_bytes, no_entry}
+use Rattle.dir_look.specs.Look.{entry_answer, entry_bytes, no_entry, bytes_of}
 use Rattle.refusals.specs.declared.Refusal.{Refusal}
 use Rattle.refusals.specs.declared.Refusal.TheVariants.{EntryNotFound}
 use Rattle.refusals.specs.Refusals.{giving, if_done, done}
 use Rattle.std.specs.Prelude.{Result, Ok, Err}
 use Rattle.std.specs.Result.{result_unwrap_or}
-
-given : (j : Result Unit Refusal) (x : List ℕ) → result_unwrap_or (giving j (if_done j x no_entry)) no_entry ≡ if_done j x no_entry
-given (Ok v) x = refl
-given (Err e) x = refl
 
 module _ (img : List ℕ) (p k : ℕ) (h : Head) (q : in_dir img p (λ x. Ok x) ≡ Ok h) where
   pub entry_none : entries img p ≤ k → giving (entry_answer img p k) (entry_bytes img p k) ≡ Err EntryNotFound
@@ -33,8 +29,15 @@ module _ (img : List ℕ) (p k : ℕ) (h : Head) (q : in_dir img p (λ x. Ok x) 
       let e = dir_yes img p _ h g.0 g.1 ∙ pick_yes k (entries img p) done (Err EntryNotFound) l in
       ap (λ (j : Result Unit Refusal). giving j (if_done j (file_bytes img p (260 * k) 260) no_entry)) e
 
--- the bytes of what is given, and zeros where it is refused
-pub or_zeros : (img : List ℕ) (p k : ℕ) {r : Result (List ℕ) Refusal} {e : List ℕ} → r ≡ giving (entry_answer img p k) (entry_bytes img p k)
-    → e ≡ result_unwrap_or r no_entry → e ≡ entry_bytes img p k
+-- an answer's bytes, and zeros where it is refused
+pub bytes_are : (r : Result (List ℕ) Refusal) → result_unwrap_or r no_entry ≡ bytes_of r
+bytes_are (Ok e) = refl
+bytes_are (Err r) = refl
+
+given : (j : Result Unit Refusal) (e : List ℕ) → bytes_of (giving j (if_done j e no_entry)) ≡ if_done j e no_entry
+given (Ok v) e = refl
+given (Err r) e = refl
+
+pub told_bytes : (img : List ℕ) (p k : ℕ) → bytes_of (giving (entry_answer img p k) (entry_bytes img p k)) ≡ entry_bytes img p k
 unfolding entry_bytes
-or_zeros img p k q d = d ∙ ap (λ (s : Result (List ℕ) Refusal). result_unwrap_or s no_entry) q ∙ given (entry_answer img p k) _
+told_bytes img p k = given (entry_answer img p k) _

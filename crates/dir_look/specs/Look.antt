@@ -21,5 +21,9 @@ entry_answer img p k = in_dir img p (λ h. pick (ltb k (entries img p)) done (Er
 abbrev pub no_entry : List ℕ
 no_entry = replicate entry_size 0
 
+abbrev pub bytes_of : Result (List ℕ) Refusal → List ℕ
+bytes_of (Ok e) = e
+bytes_of (Err r) = no_entry
+
 unfoldable pub entry_bytes : List ℕ → ℕ → ℕ → List ℕ
 entry_bytes img p k = if_done (entry_answer img p k) (file_bytes img p (entry_size * k) entry_size) no_entry

@@ -4,7 +4,7 @@
 ghost use Rattle.std.specs.Prelude.{◌≡◌};
 ghost use Rattle.card_rules.specs.Whole.{Reached, Whole};
 ghost use Rattle.refusals.specs.Refusals.{giving};
-ghost use Rattle.dir_look.specs.Look.{find_answer, entry_answer, entry_bytes};
+ghost use Rattle.dir_look.specs.Look.{find_answer, entry_answer, entry_bytes, bytes_of};
 
 use card_layout::{DIRENT_SIZE, INodeId};
 use check_names::loading;
@@ -38,10 +38,18 @@ pub fn entry_at(image: &[u8], p: INodeId, k: u64) -> Result<[u8; DIRENT_SIZE], R
     Ok(loading::load_entry(image, p, k as usize))
 }
 
-// The same by value, and 260 zeros if refused.
+// The bytes of such an answer by value, and 260 zeros if it is a refusal.
+#[tactic(auto, using(crate::proofs::LookLaws::bytes_are))]
+pub fn told(r: Result<[u8; DIRENT_SIZE], Refusal>) -> [u8; DIRENT_SIZE]
+    ensures { result ≡ bytes_of r }
+{
+    r.unwrap_or([0; DIRENT_SIZE])
+}
+
+// Both.
 pub fn entry(image: &[u8], p: INodeId, k: u64) -> [u8; DIRENT_SIZE]
     requires { Whole image.now × Reached image.now p.0 }
     ensures { result ≡ entry_bytes image.now p.0 k }
 {
-    entry_at(image, p, k).unwrap_or([0; DIRENT_SIZE])
+    told(entry_at(image, p, k))
 }

@@ -90,7 +90,7 @@ module _ {img img' s s' : List ℕ} (w : Whole img) (bytes : Bytes img) {p : ℕ
 
 module _ {img img' s s' : List ℕ} (w : Whole img) (bytes : Bytes img) {p : ℕ} {x : List ℕ} {r : Said} (c : Unlinked img img' s s' p x r)
     (z : answer_no r ≡ 0) where
-  unlink_acts : Acts img p p (plain (unlink_answer img p x)) r (unlink_card (blocks img) img p x) img'
+  pub unlink_acts : Acts img p p (plain (unlink_answer img p x)) r (unlink_card (blocks img) img p x) img'
   unlink_acts = acts (plain (unlink_answer img p x)) (unlink_card (blocks img) img p x) img img' c.opened c.opening c.said c.image z
 
   unlink_fine : answer_no (unlink_answer img p x) ≡ 0

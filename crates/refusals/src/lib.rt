@@ -32,24 +32,28 @@ pub fn refusal_no(e: Refusal) -> u32
 }
 
 impl fmt::Display for Refusal {
+    ghost use Rattle.std.specs.Prelude.{Some};
+    ghost use Rattle.refusals.specs.Texts.{refusal_text};
+
+    ghost output = { λ e. Some (refusal_text e) };
+
     fn fmt<W: fmt::Write>(&self, f: &mut fmt::Formatter<W>) -> fmt::Result {
-        let words = match self {
-            Refusal::ScratchShort => "the scratch is too short",
-            Refusal::WrongFs => "the magic number is another",
-            Refusal::Damaged => "the card is damaged",
-            Refusal::NoInode => "no inode has that number",
-            Refusal::NotFile => "a directory is no file",
-            Refusal::NotDir => "not a directory",
-            Refusal::IsDir => "a directory",
-            Refusal::BadName => "the name cannot be stored",
-            Refusal::EntryExist => "the name is taken",
-            Refusal::EntryNotFound => "no such entry",
-            Refusal::DirNotEmpty => "the directory is not empty",
-            Refusal::InvalidParam => "an invalid parameter",
-            Refusal::TooManyLinks => "too many links",
-            Refusal::NoDeviceSpace => "no space is left on the card",
-        };
-        write!(f, "{words}")
+        match self {
+            Refusal::ScratchShort => f.write_str("the scratch is too short"),
+            Refusal::WrongFs => f.write_str("the magic number is another"),
+            Refusal::Damaged => f.write_str("the card is damaged"),
+            Refusal::NoInode => f.write_str("no inode has that number"),
+            Refusal::NotFile => f.write_str("a directory is no file"),
+            Refusal::NotDir => f.write_str("not a directory"),
+            Refusal::IsDir => f.write_str("a directory"),
+            Refusal::BadName => f.write_str("the name cannot be stored"),
+            Refusal::EntryExist => f.write_str("the name is taken"),
+            Refusal::EntryNotFound => f.write_str("no such entry"),
+            Refusal::DirNotEmpty => f.write_str("the directory is not empty"),
+            Refusal::InvalidParam => f.write_str("an invalid parameter"),
+            Refusal::TooManyLinks => f.write_str("too many links"),
+            Refusal::NoDeviceSpace => f.write_str("no space is left on the card"),
+        }
     }
 }
 

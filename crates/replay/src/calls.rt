@@ -5,7 +5,8 @@ use call_dirs;
 use call_files;
 use call_looks;
 use call_said;
-use card_layout::{DIRENT_SIZE, INodeId, inode};
+use card_layout::{INodeId, inode};
+use dir_look;
 use refusals::Refusal;
 use sfs::c_looks;
 use std::io;
@@ -53,7 +54,7 @@ fn metadata(image: &[u8], scratch: &mut [u32], n: u32) -> Got {
 // Its value is the length of the name in the entry.
 fn entry(image: &[u8], scratch: &mut [u32], p: u32, k: u64) -> Got {
     let r = call_looks::entry(image, scratch, INodeId(p), k);
-    let e = r.unwrap_or([0; DIRENT_SIZE]);
+    let e = dir_look::told(r);
     told(r, short(c_looks::sfs_entry_name(&e)), made::sum(&e))
 }
 

@@ -294,7 +294,7 @@ taken_within x = go (ℕ_discrete (taken x) 0)
         omega (arith, k.size, ap length k.is, length-append (encoding k.number) (drop (taken x) x), length-drop (taken x) x)
 
 -- what is taken by the tests of the bytes
-taken_rows : (x : List ℕ) → 0 < length x → (p q r t : Bool) → ltb (byte x 0) 0x80 ≡ p → table.two (byte x 0) (byte x 1) ≡ q
+pub taken_rows : (x : List ℕ) → 0 < length x → (p q r t : Bool) → ltb (byte x 0) 0x80 ≡ p → table.two (byte x 0) (byte x 1) ≡ q
     → table.three (byte x 0) (byte x 1) (byte x 2) ≡ r → table.four (byte x 0) (byte x 1) (byte x 2) (byte x 3) ≡ t
     → pick p 1 (pick q 2 (pick r 3 (pick t 4 0))) ≡ taken x
 unfolding sequence

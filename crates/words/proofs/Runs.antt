@@ -134,6 +134,32 @@ pub copied_same : (d : List ℕ) (at : ℕ) (s : List ℕ) (from n : ℕ) → at
 unfolding copied
 copied_same d at s from n l h = puts_same d _ _ n h
 
+-- what is copied once more is there already
+copied_again : (d : List ℕ) (at : ℕ) (s : List ℕ) (from m k : ℕ) → at + m ≤ length d
+    → copied (copied d at s from m) at s from (m + k) ≡ copied d at s from (m + k)
+copied_again d at s from m k h =
+    let x = copied d at s from m in
+    let same = copied_same x at s from m (omega (arith, length-copied d at s from m)) (λ j l. sym (byte-copied_in d at s from m j h l)) in
+    sym (copied_add x at s from m k) ∙ ap (λ (y : List ℕ). copied y (at + m) s (from + m) k) same ∙ copied_add d at s from m k
+
+-- so the last 16 of n bytes may be copied where those below r are there
+pub copied_tail : (d : List ℕ) (at : ℕ) (s : List ℕ) (from r n : ℕ) → 16 ≤ n → n ≤ r + 16 → r ≤ n → at + n ≤ length d
+    → copied (copied d at s from r) (at + (n - 16)) s (from + (n - 16)) 16 ≡ copied d at s from n
+copied_tail d at s from r n g l m h =
+    let e = n - 16 in
+    let a : e + (r - e) ≡ r = omega arith in
+    let b : (r - e) + (16 - (r - e)) ≡ 16 = omega arith in
+    let c : e + 16 ≡ n = omega arith in
+    let x = copied d at s from e in
+    let long : length x ≡ length d = length-copied d at s from e in
+    let again = copied_again x (at + e) s (from + e) (r - e) (16 - (r - e)) (omega (arith, long)) in
+    ap (λ (y : List ℕ). copied y (at + e) s (from + e) 16) (ap (copied d at s from) (sym a) ∙ sym (copied_add d at s from e (r - e)))
+    ∙ ap (λ (y : ℕ). copied (copied x (at + e) s (from + e) (r - e)) (at + e) s (from + e) y) (sym b)
+    ∙ again
+    ∙ ap (copied x (at + e) s (from + e)) b
+    ∙ copied_add d at s from e 16
+    ∙ ap (copied d at s from) c
+
 pub bytes_zeroed : (d : List ℕ) (at n : ℕ) → Bytes d → Bytes (zeroed d at n)
 unfolding zeroed
 bytes_zeroed d at n h = bytes_puts d _ _ n h (λ k l. omega arith)

@@ -107,12 +107,80 @@ impl Number for u64 {
     }
 }
 
-// The n bytes of src from `from` on go to dst from `at` on.
+// 16 bytes. All are read before any is written, so that the compiler makes one load and one store of them without asking whether the two slices overlap. By
+// copy_from_slice it would call C's memmove, which a program without the C library has not.
+fn copy16(src: &[u8], from: usize, dst: &mut [u8], at: usize)
+    requires { (from + 16 ≤ length src.now) × (at + 16 ≤ length dst.old) }
+    ensures { dst.new ≡ copied dst.old at src.now from 16 }
+{
+    let a = u64::get(src, from);
+    let b = u64::get(src, from + 8);
+    a.put(dst, at);
+    b.put(dst, at + 8);
+}
+
+fn copy64(src: &[u8], from: usize, dst: &mut [u8], at: usize)
+    requires { (from + 64 ≤ length src.now) × (at + 64 ≤ length dst.old) }
+    ensures { dst.new ≡ copied dst.old at src.now from 64 }
+{
+    copy16(src, from, dst, at);
+    copy16(src, from + 16, dst, at + 16);
+    copy16(src, from + 32, dst, at + 32);
+    copy16(src, from + 48, dst, at + 48);
+}
+
+// As many of n bytes as whole steps of 128 take: the answer.
+fn copy_steps(src: &[u8], from: usize, dst: &mut [u8], at: usize, n: usize) -> usize
+    requires { (from + n ≤ length src.now) × (at + n ≤ length dst.old) }
+    ensures { (result ≤ n) × (dst.new ≡ copied dst.old at src.now from result) }
+{
+    let steps = n / 128;
+    for q in 0..steps {
+        let j = 128 * q;
+        copy64(src, from + j, dst, at + j);
+        let k = j + 64;
+        copy64(src, from + k, dst, at + k);
+    }
+    128 * steps
+}
+
+// The same by steps of 16: fewer than 16 bytes are left.
+fn copy_rest(src: &[u8], from: usize, dst: &mut [u8], at: usize, n: usize) -> usize
+    requires { (from + n ≤ length src.now) × (at + n ≤ length dst.old) }
+    ensures { (result ≤ n) × (n ≤ result + 15) × (dst.new ≡ copied dst.old at src.now from result) }
+{
+    let steps = n / 16;
+    for q in 0..steps {
+        let j = 16 * q;
+        copy16(src, from + j, dst, at + j);
+    }
+    16 * steps
+}
+
+fn copy_bytes(src: &[u8], from: usize, dst: &mut [u8], at: usize, n: usize)
+    requires { (from + n ≤ length src.now) × (at + n ≤ length dst.old) }
+    ensures { dst.new ≡ copied dst.old at src.now from n }
+{
+    for j in 0..n {
+        dst[at + j] = src[from + j];
+    }
+}
+
+// The n bytes of src from `from` on go to dst from `at` on. The last 16 are copied once more where some of them are left.
 pub fn copy(src: &[u8], from: usize, dst: &mut [u8], at: usize, n: usize)
     requires { (from + n ≤ length src.now) × (at + n ≤ length dst.old) }
     ensures { dst.new ≡ copied dst.old at src.now from n }
 {
-    dst[at..at + n].copy_from_slice(&src[from..from + n]);
+    if n < 16 {
+        copy_bytes(src, from, dst, at, n);
+        return;
+    }
+    let k = copy_steps(src, from, dst, at, n);
+    let j = copy_rest(src, from + k, dst, at + k, n - k);
+    if k + j < n {
+        let e = n - 16;
+        copy16(src, from + e, dst, at + e);
+    }
 }
 
 // n zeros go to dst from `at` on.

@@ -1,6 +1,7 @@
 -- `call_looks::entry` meets its contract. Assumes nothing.
 use Rattle.call_said.proofs.Opened.{on_open}
-use Rattle.call_looks.proofs.EntryTold.{told_plain, told_bytes}
+use Rattle.call_looks.proofs.EntryTold.{told_plain}
+use Rattle.dir_look.proofs.LookLaws.{told_bytes}
 use Rattle.call_looks.proofs.entry.Goals as goal
 
 pub returns : goal.returns
